@@ -39,17 +39,17 @@ since_one one other coloring path (Ok true) old new so said = said
 since_one one other coloring path (Ok false) old new so said = (so said.0, said.1)
 since_one one other coloring path (Err fault) old new so said = (so said.0, said.1)
 
-module _ {F : Type 0} (f : Filing F) (coloring : Coloring) (path : Name) where
-  pub of_lockfile : (bytes line : List ℕ) (was now : FilesView) (came : Result Bool CallFault) (old new : Stream) → OneFailedAt f path was.failed now.failed → SaysFailed coloring path came old new → SaysOfLockfile f coloring path bytes line was now came old new
-  of_lockfile bytes line was now (Ok true) old new one said = absurd said
-  of_lockfile bytes line was now (Ok false) old new one said = inl (one, said)
-  of_lockfile bytes line was now (Err fault) old new one said = inl (one, said)
+module _ {F : Type 0} (f : Filing F) (by_guard : Bool) (coloring : Coloring) (dir path : Name) where
+  pub of_lockfile : (bytes : List ℕ) (was now : FilesView) (came : Result Bool CallFault) (old new : Stream) → OneFailedAt f path was.failed now.failed → SaysFailed coloring path came old new → SaysOfLockfile f by_guard coloring dir path bytes was now came old new
+  of_lockfile bytes was now (Ok true) old new one said = absurd said
+  of_lockfile bytes was now (Ok false) old new one said = inl (one, said)
+  of_lockfile bytes was now (Err fault) old new one said = inl (one, said)
 
   -- by a test of whether it is done
-  pub undone : (bytes line : List ℕ) (was now : FilesView) (done : Bool) (old new : Stream) → done ≡ false → SaysOfLockfile f coloring path bytes line was now (Ok done) old new → SaysUnsettled f coloring path was.failed now.failed (Ok false) old new
-  undone bytes line was now true old new off said = cc
-  undone bytes line was now false old new off said = said
+  pub undone : (bytes : List ℕ) (was now : FilesView) (done : Bool) (old new : Stream) → done ≡ false → SaysOfLockfile f by_guard coloring dir path bytes was now (Ok done) old new → SaysUnsettled f by_guard coloring path was.failed now.failed (Ok false) old new
+  undone bytes was now true old new off said = cc
+  undone bytes was now false old new off said = said
 
-  pub done_so : (bytes line : List ℕ) (was now : FilesView) (done : Bool) (old new : Stream) → done ≡ true → SaysOfLockfile f coloring path bytes line was now (Ok done) old new → SaysIfOther f.tells (was.held path) bytes line old new
-  done_so bytes line was now true old new on said = said
-  done_so bytes line was now false old new on said = cc
+  pub done_so : (bytes : List ℕ) (was now : FilesView) (done : Bool) (old new : Stream) → done ≡ true → SaysOfLockfile f by_guard coloring dir path bytes was now (Ok done) old new → SaysIfOther by_guard coloring dir path f.tells (was.held path) bytes old new
+  done_so bytes was now true old new on said = said
+  done_so bytes was now false old new on said = cc

@@ -1,5 +1,5 @@
 -- What becomes of what an interrupted call left.
-use Rattle.std.specs.Prelude.{◌≡◌, ◌≢◌, ◌⊎◌, [], ℕ, Bool, true, false, List, OnOk, Option, Some, None, Ok, Err, Result, codes, string_bytes, if◌then◌else◌}
+use Rattle.std.specs.Prelude.{◌≡◌, ◌≢◌, ◌⊎◌, [], ℕ, Bool, true, false, List, OnErr, OnOk, Option, Some, None, Ok, Err, Result, codes, string_bytes, if◌then◌else◌}
 use Rattle.std.specs.Option.{option_or}
 use Rattle.hack_base.specs.Counters.{GrowsBy}
 use Rattle.hack_base.specs.Names.{Name}
@@ -63,9 +63,10 @@ abbrev pub IsToldAs : RecoverFault → Result Bool CallFault → Type 0
 IsToldAs unrecovered.Memory came = came ≡ Err Memory
 IsToldAs fault came = came ≢ Ok true
 
--- what came of bringing it back, and a line for each path, or why it isn't back; memory may be refused for either
+-- what came of bringing it back: it is, and a line is said for each path; or why it isn't, unless memory is refused
+-- for that
 pub data IsBroughtBack {F : Type 0} (f : Filing F) (spot : Spot) (dir : Name) (coloring : Coloring) (old new : FilesView) (err now_err : Stream) (came : Result Bool CallFault) : Type 0 where
-  brought : (paths : List Name) → Recovers f.tells f.whole spot paths old new → came ≢ Ok false → SaysRestored coloring dir paths came err now_err
+  brought : (paths : List Name) → Recovers f.tells f.whole spot paths old new → came ≡ Ok true → SaysRestored coloring dir paths err now_err
       → IsBroughtBack f spot dir coloring old new err now_err came
   stopped : (fault : RecoverFault) → FailsToRestore f spot fault old new → IsToldAs fault came → SaysFault coloring fault came err now_err
       → IsBroughtBack f spot dir coloring old new err now_err came
@@ -111,7 +112,7 @@ module _ {F L : Type 0} (f : Filing F) (l : Filing L) (places : PlacesAt) where
   copy_of held lockfiles = if leaves_out held places.found places.pkg_dir then held places.copy else option_or (lockfiles places.lockfile) (held places.copy)
 
   -- the lockfile was copied, no other file is changed, and no call failed; where it isn't done, there is a cause,
-  -- and at most the copy is changed, and then it has what that lockfile holds
+  -- and nothing is changed, unless the copy's own write was refused: even then it is whole, or as it was
   pub record KeepsCopy (came : Result (Unit {0}) CallFault) (old new : Scene) : Type 0 where
     pub copied : OnOk came (f.tells → l.tells → new.files.held places.copy ≡ copy_of old.files.held old.lockfiles.held)
     pub others : f.tells → KeepsOthers places.copy old.files.held new.files.held
@@ -119,6 +120,7 @@ module _ {F L : Type 0} (f : Filing F) (l : Filing L) (places : PlacesAt) where
     pub failed : OneMayFail old.files.failed new.files.failed × OneMayFail old.lockfiles.failed new.lockfiles.failed
     pub made : f.whole → Makes [] old.files.trace new.files.trace old.files.held new.files.held
         ⊎ ((bytes : Name) × (f.tells → leaves_out old.files.held places.found places.pkg_dir ≡ false) × (l.tells → old.lockfiles.held places.lockfile ≡ Some bytes) × MakesOrNot (puts places.copy bytes) old.files.trace new.files.trace old.files.held new.files.held)
+    pub undone : OnErr came (Unchanged f.tells f.whole old.files new.files ⊎ IsRefused f places.copy)
     pub same : Unchanged l.tells l.whole old.lockfiles new.lockfiles
     pub host : new.host ≡ old.host
     pub ends : EndsCopying old.host.term.coloring old.files.failed new.files.failed old.lockfiles.failed new.lockfiles.failed came old.streams.err new.streams.err

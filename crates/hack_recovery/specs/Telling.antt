@@ -1,8 +1,8 @@
 -- What is said, and recorded, of a step that may report an error.
-use Rattle.std.specs.Prelude.{◌≡◌, ◌≢◌, ◌⊎◌, ◌<◌, ℕ, Bool, true, false, List, MatchBool, None, Option, Some, Result, Ok, Err, codes, length, map, take}
+use Rattle.std.specs.Prelude.{◌≡◌, ◌≢◌, ◌⊎◌, ℕ, Bool, true, false, List, [], ◌∷◌, MatchBool, None, Option, Some, Result, Ok, Err, codes}
 use Rattle.hack_base.specs.Counters.{GrowsBy}
 use Rattle.hack_base.specs.Names.{Name}
-use Rattle.hack_base.specs.Streams.{Stream, WritesAll, WritesText}
+use Rattle.hack_base.specs.Streams.{Stream, WritesText}
 use Rattle.hack_files.specs.Faults.{of_device}
 use Rattle.hack_files.specs.View.{FilesView}
 use Rattle.hack_files.specs.WriteBacks.{SaysReason}
@@ -15,7 +15,7 @@ use Rattle.hack_places.specs.CallPlaces.{PlacesAt}
 use Rattle.hack_recovery.specs.FailedFiles.{OneFailedAt}
 use Rattle.hack_recovery.specs.declared.admit.Standing.{Standing}
 use Rattle.hack_recovery.specs.declared.admit.Standing.TheVariants.{Nobodys, Anothers, Interrupted}
-use Rattle.hack_recovery.specs.Texts.{beside_text, left_text, restored_text, row_text, short_unsure_text, stranger_text, short_unkept_text, unkept_text, unknown_text, unlocked_text, unrestored_text, unseen_text, unsettled_text, unsure_text, unwatched_text}
+use Rattle.hack_recovery.specs.Texts.{beside_text, left_text, restored_text, row_text, short_restored_text, short_unkept_text, short_unsure_text, stranger_text, unkept_text, unknown_text, unlocked_text, unrestored_text, unseen_text, unsettled_text, unsure_text, unwatched_text}
 use Rattle.hack_recovery.specs.declared.fault.CallFault.{CallFault}
 use Rattle.hack_recovery.specs.declared.fault.CallFault.TheVariants.{Memory, Busy, Unlocked, NoCopy}
 use Rattle.hack_term.specs.Lines.{error_line, info_line, warning_line}
@@ -28,11 +28,6 @@ abbrev pub Tells : Term → Term → Result Bool CallFault → Type 0
 Tells was now (Ok true) = now ≡ was
 Tells was now (Ok false) = now ≡ record was { error = true }
 Tells was now (Err fault) = (fault ≡ Memory) × (now ≡ was)
-
--- a line was said, unless memory was refused for it
-abbrev pub SaysOrStarves : {T : Type 0} → List ℕ → Result T CallFault → Stream → Stream → Type 0
-SaysOrStarves line (Ok done) old new = WritesText line old new
-SaysOrStarves line (Err fault) old new = new ≡ old
 
 -- whose edits may stand while a call goes on: one of another call is told, and a warning given of those of an
 -- interrupted one
@@ -67,14 +62,15 @@ SaysStranger coloring journal path (Ok false) old new =
     (mid : Stream) × WritesText (info_line coloring row_text) old mid × WritesText (error_line coloring (stranger_text journal path)) mid new
 SaysStranger coloring journal path (Err refused) old new = new ≡ old
 
--- the lines of files that were restored
-abbrev pub restored_lines : Coloring → Name → List Name → List (List ℕ)
-restored_lines coloring dir paths = map (λ path. info_line coloring (restored_text dir path)) paths
+-- a file was restored, which is named unless memory was refused for that
+abbrev pub SaysFileRestored : Coloring → Name → Name → Stream → Stream → Type 0
+SaysFileRestored coloring dir path old new =
+    WritesText (info_line coloring (restored_text dir path)) old new ⊎ WritesText (info_line coloring short_restored_text) old new
 
--- these files were restored: a line for each, or the first of these lines, until memory was refused for the next
-abbrev pub SaysRestored : {T : Type 0} → Coloring → Name → List Name → Result T CallFault → Stream → Stream → Type 0
-SaysRestored coloring dir paths (Ok done) old new = WritesAll (restored_lines coloring dir paths) old new
-SaysRestored coloring dir paths (Err refused) old new = (k : ℕ) × (k < length paths) × WritesAll (restored_lines coloring dir (take k paths)) old new
+-- these files were restored: a line for each
+abbrev pub SaysRestored : Coloring → Name → List Name → Stream → Stream → Type 0
+SaysRestored coloring dir [] old new = new ≡ old
+SaysRestored coloring dir (path ∷ paths) old new = (mid : Stream) × SaysFileRestored coloring dir path old mid × SaysRestored coloring dir paths mid new
 
 -- ---- the lockfile and its copy
 
@@ -93,10 +89,15 @@ SaysFailed coloring path (Ok false) old new =
     (mid : Stream) × SaysReason coloring old mid × WritesText (error_line coloring (unsettled_text path)) mid new
 SaysFailed coloring path (Err refused) old new = SaysReason coloring old new
 
--- a line is said just where a path doesn't hold these bytes
-pub data SaysIfOther (tells : Type 0) (held : Option (List ℕ)) (bytes line : List ℕ) (old new : Stream) : Type 0 where
-  other : (tells → held ≢ Some bytes) → WritesText line old new → SaysIfOther tells held bytes line old new
-  same : (tells → held ≡ Some bytes) → new ≡ old → SaysIfOther tells held bytes line old new
+-- what is said of a lockfile that isn't what its copy is: the guard restored it, and any other call left it
+abbrev pub SaysLockfile : Bool → Coloring → Name → Name → Stream → Stream → Type 0
+SaysLockfile true coloring dir path old new = SaysFileRestored coloring dir path old new
+SaysLockfile false coloring dir path old new = WritesText (info_line coloring (left_text dir path)) old new
+
+-- that is said just where the lockfile doesn't hold these bytes
+pub data SaysIfOther (by_guard : Bool) (coloring : Coloring) (dir path : Name) (tells : Type 0) (held : Option (List ℕ)) (bytes : List ℕ) (old new : Stream) : Type 0 where
+  other : (tells → held ≢ Some bytes) → SaysLockfile by_guard coloring dir path old new → SaysIfOther by_guard coloring dir path tells held bytes old new
+  same : (tells → held ≡ Some bytes) → new ≡ old → SaysIfOther by_guard coloring dir path tells held bytes old new
 
 -- nothing is said where it is done; else a call at this path failed, as `one` says of it, and that was said
 abbrev pub SaysIfNotDone : Type 0 → Coloring → Name → Result Bool CallFault → Stream → Stream → Type 0
@@ -104,21 +105,17 @@ SaysIfNotDone one coloring path (Ok true) old new = new ≡ old
 SaysIfNotDone one coloring path (Ok false) old new = one × SaysFailed coloring path (Ok false) old new
 SaysIfNotDone one coloring path (Err fault) old new = one × SaysFailed coloring path (Err fault) old new
 
--- such a call of these files failed, and that was said; or memory was refused for a line, and nothing was said
-abbrev pub SaysUnsettled : {F : Type 0} → Filing F → Coloring → Name → ℕ → ℕ → Result Bool CallFault → Stream → Stream → Type 0
-SaysUnsettled f coloring path before now came old new =
-    (OneFailedAt f path before now × SaysFailed coloring path came old new) ⊎ ((came ≡ Err Memory) × (new ≡ old))
+-- such a call of these files failed, and that was said; or, where the lockfile is left, memory was refused for the
+-- line on it, and nothing was said
+abbrev pub SaysUnsettled : {F : Type 0} → Filing F → Bool → Coloring → Name → ℕ → ℕ → Result Bool CallFault → Stream → Stream → Type 0
+SaysUnsettled f by_guard coloring path before now came old new =
+    (OneFailedAt f path before now × SaysFailed coloring path came old new) ⊎ ((by_guard ≡ false) × (came ≡ Err Memory) × (new ≡ old))
 
--- where it is done, this line is said of a lockfile, unless it held these bytes; else why it isn't
-abbrev pub SaysOfLockfile : {F : Type 0} → Filing F → Coloring → Name → List ℕ → List ℕ → FilesView → FilesView → Result Bool CallFault → Stream → Stream → Type 0
-SaysOfLockfile f coloring path bytes line was now (Ok true) old new = SaysIfOther f.tells (was.held path) bytes line old new
-SaysOfLockfile f coloring path bytes line was now (Ok false) old new = SaysUnsettled f coloring path was.failed now.failed (Ok false) old new
-SaysOfLockfile f coloring path bytes line was now (Err fault) old new = SaysUnsettled f coloring path was.failed now.failed (Err fault) old new
-
--- what is said of a lockfile that isn't what its copy is: the guard restored it, and any other call left it
-abbrev pub lockfile_text : Bool → Name → Name → Name
-lockfile_text true dir path = restored_text dir path
-lockfile_text false dir path = left_text dir path
+-- where it is done, what is said of a lockfile, unless it held these bytes; else why it isn't
+abbrev pub SaysOfLockfile : {F : Type 0} → Filing F → Bool → Coloring → Name → Name → List ℕ → FilesView → FilesView → Result Bool CallFault → Stream → Stream → Type 0
+SaysOfLockfile f by_guard coloring dir path bytes was now (Ok true) old new = SaysIfOther by_guard coloring dir path f.tells (was.held path) bytes old new
+SaysOfLockfile f by_guard coloring dir path bytes was now (Ok false) old new = SaysUnsettled f by_guard coloring path was.failed now.failed (Ok false) old new
+SaysOfLockfile f by_guard coloring dir path bytes was now (Err fault) old new = SaysUnsettled f by_guard coloring path was.failed now.failed (Err fault) old new
 
 -- What is said of a copy of the lockfile: nothing, where none is there; that a look at it failed; why the lockfile can't be
 -- looked at or written, and then the copy stays; or what became of the lockfile, and then that the copy can't be removed, if
@@ -130,10 +127,10 @@ pub data SaysSettling {F L : Type 0} (f : Filing F) (l : Filing L) (places : Pla
   unseen : GrowsBy 1 files.failed files_now.failed → IsUnseen f places.copy → SaysFailed coloring places.copy came old new
       → SaysSettling f l places by_guard dir coloring files files_now lockfiles lockfiles_now came old new
   unsettled : (bytes : List ℕ) → (f.tells → files.held places.copy ≡ Some bytes) → (f.tells → files_now.held places.copy ≡ Some bytes) → GrowsBy 0 files.failed files_now.failed
-      → SaysUnsettled l coloring places.lockfile lockfiles.failed lockfiles_now.failed came old new
+      → SaysUnsettled l by_guard coloring places.lockfile lockfiles.failed lockfiles_now.failed came old new
       → SaysSettling f l places by_guard dir coloring files files_now lockfiles lockfiles_now came old new
   settled : (bytes : List ℕ) (mid : Stream) → (f.tells → files.held places.copy ≡ Some bytes) → GrowsBy 0 lockfiles.failed lockfiles_now.failed
-      → SaysIfOther l.tells (lockfiles.held places.lockfile) bytes (info_line coloring (lockfile_text by_guard dir places.lockfile)) old mid
+      → SaysIfOther by_guard coloring dir places.lockfile l.tells (lockfiles.held places.lockfile) bytes old mid
       → SaysIfNotDone (GrowsBy 1 files.failed files_now.failed × IsRefused f places.copy) coloring places.copy came mid new
       → SaysSettling f l places by_guard dir coloring files files_now lockfiles lockfiles_now came old new
 

@@ -48,6 +48,10 @@ unwatched_text = codes "no guard could be started: where this call is interrupte
 abbrev pub restored_text : Name → Name → Name
 restored_text dir path = codes "restored `" ++ (under_of path dir ++ codes "` after an interrupted call")
 
+-- the same where memory is refused for that
+abbrev pub short_restored_text : Name
+short_restored_text = codes "restored a file after an interrupted call"
+
 -- a lockfile isn't what its copy is
 abbrev pub left_text : Name → Name → Name
 left_text dir path = codes "left `" ++ (under_of path dir ++ codes "` as it is: in the interrupted call cargo may have changed it")

@@ -4,7 +4,7 @@
 //! A guard acts at once, so it gives the lockfile back what the copy has. Any later call can't tell
 //! cargo's change from a person's, so it leaves the lockfile as it is.
 
-ghost use Rattle.std.specs.Prelude.{◌≡◌, ◌≢◌, ◌⊎◌, [], Err, None, Ok, OnOk, Some, false};
+ghost use Rattle.std.specs.Prelude.{◌≡◌, ◌≢◌, ◌⊎◌, [], Err, None, Ok, OnErr, OnOk, Some, false};
 ghost use Rattle.std.specs.Prelude.{string_bytes, true};
 ghost use Rattle.std.specs.Option.{option_or};
 ghost use Rattle.hack_base.specs.Streams.{stream_of};
@@ -14,6 +14,7 @@ ghost use Rattle.hack_files.specs.Files.{CountsFailedCall, KeepsAll, KeepsOthers
 ghost use Rattle.hack_files.specs.Files.{MakesOrNot, puts, removes};
 ghost use Rattle.hack_journal.specs.FailedCalls.{FailsUnseenAt};
 ghost use Rattle.hack_journal.specs.Refusing.{IsRefused};
+ghost use Rattle.hack_places.specs.FileLooks.{Unchanged};
 ghost use Rattle.hack_places.specs.Folders.{leaves_out};
 ghost use Rattle.hack_places.specs.PlacesView.{places_view};
 ghost use Rattle.hack_recovery.specs.FailedFiles.{OneFailedAt};
@@ -21,10 +22,8 @@ ghost use Rattle.hack_recovery.specs.Restoring.{EndsCopying, copy_of};
 ghost use Rattle.hack_recovery.specs.Scenes.{OneMayFail};
 ghost use Rattle.hack_recovery.specs.Telling.{SaysFailed, SaysIfNotDone, SaysOfLockfile};
 ghost use Rattle.hack_recovery.specs.Telling.{SaysSettling, SaysUncopied, Tells};
-ghost use Rattle.hack_recovery.specs.Texts.{left_text, restored_text};
 ghost use Rattle.hack_files.specs.View.{files_view};
 ghost use Rattle.hack_run.specs.Worlds.{IsSameHost, host_view};
-ghost use Rattle.hack_term.specs.Lines.{info_line};
 
 use crate::fault::CallFault;
 use crate::restore::tell_restored;
@@ -76,6 +75,9 @@ pub(crate) fn keep_copy<F: Files, L: Files, E: Sink>(
         (string_bytes places.now.lockfile) ≡ Some bytes)
         × MakesOrNot (puts (string_bytes places.now.copy) bytes)
         (F.trace files.old) (F.trace files.new) (F.bytes_at files.old) (F.bytes_at files.new)) }
+    ensures undone { OnErr result (Unchanged F.tells F.whole
+        (files_view F.Files files.old) (files_view F.Files files.new)
+        ⊎ IsRefused F.Files (string_bytes places.now.copy)) }
     ensures same { L.tells → KeepsAll (L.bytes_at lockfiles.old) (L.bytes_at lockfiles.new) }
     ensures untraced { L.whole → Makes [] (L.trace lockfiles.old) (L.trace lockfiles.new)
         (L.bytes_at lockfiles.old) (L.bytes_at lockfiles.new) }
@@ -122,6 +124,9 @@ fn copy_lockfile<F: Files, L: Files, E: Sink>(
         (string_bytes places.now.lockfile) ≡ Some bytes)
         × MakesOrNot (puts (string_bytes places.now.copy) bytes)
         (F.trace files.old) (F.trace files.new) (F.bytes_at files.old) (F.bytes_at files.new)) }
+    ensures undone { OnErr result (Unchanged F.tells F.whole
+        (files_view F.Files files.old) (files_view F.Files files.new)
+        ⊎ IsRefused F.Files (string_bytes places.now.copy)) }
     ensures same { L.tells → KeepsAll (L.bytes_at lockfiles.old) (L.bytes_at lockfiles.new) }
     ensures untraced { L.whole → Makes [] (L.trace lockfiles.old) (L.trace lockfiles.new)
         (L.bytes_at lockfiles.old) (L.bytes_at lockfiles.new) }
@@ -297,10 +302,8 @@ fn give_back<L: Files, C: Caller, O: Sink, E: Sink>(
     ensures wrote { L.whole → MakesOrNot (puts (string_bytes places.now.lockfile) bytes.now)
         (L.trace lockfiles.old) (L.trace lockfiles.new)
         (L.bytes_at lockfiles.old) (L.bytes_at lockfiles.new) }
-    ensures said { SaysOfLockfile L.Files host.old.term.now.coloring
-        (string_bytes places.now.lockfile) bytes.now (info_line host.old.term.now.coloring
-        (restored_text (string_bytes host.old.env.now.current_dir)
-        (string_bytes places.now.lockfile)))
+    ensures said { SaysOfLockfile L.Files true host.old.term.now.coloring
+        (string_bytes host.old.env.now.current_dir) (string_bytes places.now.lockfile) bytes.now
         (files_view L.Files lockfiles.old) (files_view L.Files lockfiles.new) result
         (stream_of E.Sink host.old.err.now) (stream_of E.Sink host.new.err.now) }
     ensures still { (host.new.caller.now ≡ host.old.caller.now)
@@ -315,7 +318,8 @@ fn give_back<L: Files, C: Caller, O: Sink, E: Sink>(
         Ok(()) if is_back => Ok(true),
         Ok(()) => {
             let dir = host.env.current_dir.as_str();
-            tell_restored(host.alloc, dir, path, host.term, host.err)
+            tell_restored(host.alloc, dir, path, host.term, host.err);
+            Ok(true)
         }
         Err(fault) => tell_fault(host.alloc, path, fault, lockfiles, host.term, host.err),
     }
@@ -340,10 +344,8 @@ fn leave<L: Files, C: Caller, O: Sink, E: Sink>(
     ensures same { L.tells → KeepsAll (L.bytes_at lockfiles.old) (L.bytes_at lockfiles.new) }
     ensures untraced { L.whole → Makes [] (L.trace lockfiles.old) (L.trace lockfiles.new)
         (L.bytes_at lockfiles.old) (L.bytes_at lockfiles.new) }
-    ensures said { SaysOfLockfile L.Files host.old.term.now.coloring
-        (string_bytes places.now.lockfile) bytes.now (info_line host.old.term.now.coloring
-        (left_text (string_bytes host.old.env.now.current_dir)
-        (string_bytes places.now.lockfile)))
+    ensures said { SaysOfLockfile L.Files false host.old.term.now.coloring
+        (string_bytes host.old.env.now.current_dir) (string_bytes places.now.lockfile) bytes.now
         (files_view L.Files lockfiles.old) (files_view L.Files lockfiles.new) result
         (stream_of E.Sink host.old.err.now) (stream_of E.Sink host.new.err.now) }
     ensures still { (host.new.caller.now ≡ host.old.caller.now)

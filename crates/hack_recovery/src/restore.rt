@@ -1,17 +1,16 @@
 //! Restores what an interrupted call left edited, and reports it.
 
-ghost use Rattle.std.specs.Prelude.{◌≡◌, ◌≢◌, ◌↔◌, IfErr, IfOk, IsTrue, Ok, option_and_then};
-ghost use Rattle.std.specs.Prelude.{option_map, true};
+ghost use Rattle.std.specs.Prelude.{◌≡◌, ◌≢◌, ◌↔◌, IfOk, IsTrue, Ok, option_and_then};
+ghost use Rattle.std.specs.Prelude.{option_map, string_bytes, true};
 ghost use Rattle.hack_base.specs.Names.{names_of};
 ghost use Rattle.hack_base.specs.Streams.{stream_of};
 ghost use Rattle.hack_journal.specs.Journal.{edit_of, edits_of};
 ghost use Rattle.hack_journal.specs.Rows.{spot_of};
 ghost use Rattle.hack_journal.specs.Strangers.{first_stranger};
 ghost use Rattle.hack_recovery.specs.Restoring.{IsBroughtBack, IsToldAs, Restores};
-ghost use Rattle.hack_recovery.specs.Telling.{SaysError, SaysOrStarves, SaysRestored};
+ghost use Rattle.hack_recovery.specs.Telling.{SaysError, SaysFileRestored, SaysRestored};
 ghost use Rattle.hack_recovery.specs.Telling.{SaysStranger, SaysWhy, Tells};
-ghost use Rattle.hack_recovery.specs.Texts.{restored_text};
-ghost use Rattle.hack_term.specs.Lines.{info_line};
+ghost use Rattle.hack_recovery.specs.Texts.{restored_text as text_of_restored};
 ghost use Rattle.hack_files.specs.View.{files_view};
 
 use crate::fault::CallFault;
@@ -25,7 +24,7 @@ use hack_journal::recover::{RecoverFault, recover};
 use hack_journal::rows::{Row, row_at};
 use hack_journal::strangers::first_stranger;
 use hack_term::term::Term;
-use std::alloc::Global;
+use std::alloc::{AllocError, Global};
 
 /// What somebody has to know who puts back by hand what a journal tells.
 const ROW: &str =
@@ -108,7 +107,10 @@ fn bring_back<F: JournalFiles, E: Sink>(
     ensures told { Tells term.old term.new result }
 {
     match recover(alloc, files, place) {
-        Ok(paths) => tell_all(alloc, dir, &paths, term, err),
+        Ok(paths) => {
+            tell_all(alloc, dir, &paths, term, err);
+            Ok(true)
+        }
         Err(fault) => {
             tell_why(alloc, &fault, files, term, err);
             tell_fault(alloc, fault, term, err)
@@ -117,41 +119,37 @@ fn bring_back<F: JournalFiles, E: Sink>(
 }
 
 /// Reports each file that was restored.
-fn tell_all<E: Sink>(
-    alloc: Global,
-    dir: &str,
-    paths: &[String],
-    term: &Term,
-    err: &mut E,
-) -> Result<bool, CallFault>
-    ensures done { IfOk result (λ goes_on. goes_on ≡ true) }
-    ensures fault { IfErr result (λ fault. fault ≡ CallFault.Memory) }
-    ensures said { SaysRestored term.now.coloring dir.now (names_of paths.now) result
+fn tell_all<E: Sink>(alloc: Global, dir: &str, paths: &[String], term: &Term, err: &mut E)
+    ensures { SaysRestored term.now.coloring dir.now (names_of paths.now)
         (stream_of E.Sink err.old) (stream_of E.Sink err.new) }
 {
     for path in paths {
-        tell_restored(alloc, dir, path.as_str(), term, err)?;
+        tell_restored(alloc, dir, path.as_str(), term, err);
     }
-    Ok(true)
 }
 
-/// Reports that a file was restored, by its path from the current folder.
-pub(crate) fn tell_restored<E: Sink>(
-    alloc: Global,
-    dir: &str,
-    path: &str,
-    term: &Term,
-    err: &mut E,
-) -> Result<bool, CallFault>
-    ensures done { IfOk result (λ goes_on. goes_on ≡ true) }
-    ensures fault { IfErr result (λ fault. fault ≡ CallFault.Memory) }
-    ensures said { SaysOrStarves (info_line term.now.coloring (restored_text dir.now path.now))
-        result (stream_of E.Sink err.old) (stream_of E.Sink err.new) }
+/// Reports that a file was restored, by its path from the current folder. It isn't named where memory is
+/// refused: no later call tells of it.
+pub(crate) fn tell_restored<E: Sink>(alloc: Global, dir: &str, path: &str, term: &Term, err: &mut E)
+    ensures { SaysFileRestored term.now.coloring dir.now path.now
+        (stream_of E.Sink err.old) (stream_of E.Sink err.new) }
+{
+    match restored_text(alloc, dir, path) {
+        Ok(text) => {
+            let _ = term.info(&text, err);
+        }
+        Err(_) => {
+            let _ = term.info("restored a file after an interrupted call", err);
+        }
+    }
+}
+
+/// That this file was restored.
+fn restored_text(alloc: Global, dir: &str, path: &str) -> Result<String, AllocError>
+    ensures { IfOk result (λ text. string_bytes text ≡ text_of_restored dir.now path.now) }
 {
     let path = under(path, dir);
-    let text = format!(in alloc; "restored `{path}` after an interrupted call")?;
-    let _ = term.info(&text, err);
-    Ok(true)
+    format!(in alloc; "restored `{path}` after an interrupted call")
 }
 
 /// Reports why files can't be restored.

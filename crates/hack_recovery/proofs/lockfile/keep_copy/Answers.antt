@@ -1,8 +1,9 @@
 use Rattle.std.proofs.Common.{◌∙◌, [], inl, inr, refl, string_bytes, sym}
 use Rattle.hack_files.specs.TraceLaws.{makes_more}
 use Rattle.hack_journal.proofs.RecoverLemmas.{put_or_not}
+use Rattle.hack_files.specs.View.{files_view}
 use Rattle.hack_places.specs.PlacesView.{places_view}
-use Rattle.hack_recovery.proofs.CopyLemmas.{ends_then}
+use Rattle.hack_recovery.proofs.CopyLemmas.{ends_then, undone_then}
 use Rattle.hack_recovery.proofs.lockfile.keep_copy.Goals as goal
 
 pub returns-in-Ok-false-clause-ends : goal.returns-in-Ok-false-clause-ends
@@ -20,6 +21,11 @@ returns-in-Ok-false-clause-made g c = λ whole.
         put_or_not (string_bytes c.args.places.now.copy) _ _ _ _ _ _ _ _ _ refl refl (c.in-Ok-false.ensures.untraced whole) some.2,
       )
     ]
+
+pub returns-in-Ok-false-clause-undone : goal.returns-in-Ok-false-clause-undone
+returns-in-Ok-false-clause-undone g c =
+    undone_then g.F.Files.tells g.F.Files.whole _ (files_view g.F.Files c.args.files.now) (files_view g.F.Files c.leaves_out.new.files) (files_view g.F.Files c.copy_lockfile.new.files) c.copy_lockfile.result
+    (record { same = c.in-Ok-false.ensures.same; untraced = c.in-Ok-false.ensures.untraced }) c.copy_lockfile.ensures.undone
 
 pub returns-in-Err-Device-clause-ends : goal.returns-in-Err-Device-clause-ends
 returns-in-Err-Device-clause-ends g c =

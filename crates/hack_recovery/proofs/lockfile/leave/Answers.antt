@@ -1,4 +1,4 @@
-use Rattle.std.proofs.Common.{◌∙◌, ◌++◌, ap, codes, refl, string_bytes}
+use Rattle.std.proofs.Common.{◌∙◌, ◌++◌, ap, codes, false, refl, string_bytes}
 use Rattle.hack_base.specs.Names.{Name}
 use Rattle.hack_files.specs.View.{files_view}
 use Rattle.hack_term.specs.Lines.{info_line}
@@ -18,6 +18,7 @@ pub returns-in-Err-clause-said : goal.returns-in-Err-clause-said
 returns-in-Err-clause-said g c =
     let lockfile = string_bytes c.args.places.now.lockfile in
     let coloring = c.args.host.now.term.now.coloring in
-    of_lockfile g.L.Files coloring lockfile _ _ (files_view g.L.Files c.args.lockfiles.now) (files_view g.L.Files c.holds.new.files) c.tell_fault.result _ _
+    let dir = string_bytes c.args.host.now.env.now.current_dir in
+    of_lockfile g.L.Files false coloring dir lockfile _ (files_view g.L.Files c.args.lockfiles.now) (files_view g.L.Files c.holds.new.files) c.tell_fault.result _ _
     (looked_one g.L.Files lockfile c.args.lockfiles.now c.holds.new.files c.in-Err.ensures.counted (rw c.as_str-path.ensures.value at c.in-Err.ensures.unseen))
     (rw c.as_str-path.ensures.value at c.tell_fault.ensures.said)

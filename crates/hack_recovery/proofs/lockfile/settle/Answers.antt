@@ -1,4 +1,4 @@
-use Rattle.std.proofs.Common.{◌≡◌, ◌∙◌, None, Some, ap, refl, false, inl, inr, string_bytes, sym}
+use Rattle.std.proofs.Common.{◌≡◌, ◌∙◌, None, Some, ap, refl, false, inl, inr, string_bytes, sym, true}
 use Rattle.std.specs.Prelude.{Ok}
 use Rattle.std.proofs.lemmas.Bool.{false≢true}
 use Rattle.std.proofs.lemmas.Result.{err_from_is_err_and}
@@ -7,8 +7,7 @@ use Rattle.hack_base.specs.Streams.{stream_of}
 use Rattle.hack_journal.proofs.RecoverLemmas.{put_or_not}
 use Rattle.hack_places.proofs.CountLemmas.{grows_then}
 use Rattle.hack_files.specs.View.{FilesView, files_view}
-use Rattle.hack_term.specs.Lines.{info_line}
-use Rattle.hack_recovery.specs.Telling.{SaysIfOther, SaysUnsettled, lockfile_text}
+use Rattle.hack_recovery.specs.Telling.{SaysIfOther, SaysUnsettled}
 use Rattle.hack_recovery.specs.Telling.SaysSettling.{settled, unseen, unsettled}
 use Rattle.hack_recovery.proofs.WayLemmas.{told_still}
 use Rattle.hack_recovery.proofs.SettledLemmas.{done_so, since_one, undone}
@@ -34,25 +33,27 @@ pub returns-in_err-is_settled-clause-said : goal.returns-in_err-is_settled-claus
 returns-in_err-is_settled-clause-said g c =
     let p = err_from_is_err_and c.from_residual.result c.from_residual.ensures.1 in
     let held = rw (c.in-Ok-Some.field-0-is, c.as_str.ensures.value) at c.in-Ok-Some.ensures.held in
-    rw (p.1, p.2) (unsettled c.in-Ok-Some.bytes.items held (λ t. c.in-Ok-Some.ensures.same t (string_bytes c.args.places.now.copy) ∙ held t) c.in-Ok-Some.ensures.failures c.in_err-is_settled.ensures.said)
+    rw (p.1, p.2, c.if-host.true) (unsettled c.in-Ok-Some.bytes.items held (λ t. c.in-Ok-Some.ensures.same t (string_bytes c.args.places.now.copy) ∙ held t) c.in-Ok-Some.ensures.failures c.in_err-is_settled.ensures.said)
 
 pub returns-in_err-is_settled-2-clause-said : goal.returns-in_err-is_settled-2-clause-said
 returns-in_err-is_settled-2-clause-said g c =
     let p = err_from_is_err_and c.from_residual-in_err-is_settled-2.result c.from_residual-in_err-is_settled-2.ensures.1 in
     let held = rw (c.in-Ok-Some.field-0-is, c.as_str.ensures.value) at c.in-Ok-Some.ensures.held in
-    rw (p.1, p.2) (unsettled c.in-Ok-Some.bytes.items held (λ t. c.in-Ok-Some.ensures.same t (string_bytes c.args.places.now.copy) ∙ held t) c.in-Ok-Some.ensures.failures c.in_err-is_settled-2.ensures.said)
+    rw (p.1, p.2, c.if-host.false) (unsettled c.in-Ok-Some.bytes.items held (λ t. c.in-Ok-Some.ensures.same t (string_bytes c.args.places.now.copy) ∙ held t) c.in-Ok-Some.ensures.failures c.in_err-is_settled-2.ensures.said)
 
 pub returns-then-not-is_settled-clause-said : goal.returns-then-not-is_settled-clause-said
 returns-then-not-is_settled-clause-said g c =
     let held = rw (c.in-Ok-Some.field-0-is, c.as_str.ensures.value) at c.in-Ok-Some.ensures.held in
     let lockfile = string_bytes c.args.places.now.lockfile in
     let coloring = c.args.host.now.term.now.coloring in
+    let dir = string_bytes c.args.host.now.env.now.current_dir in
+    let by_guard = c.args.host.now.env.now.by_guard in
     let was : FilesView = files_view g.L.Files c.args.lockfiles.now in
-    let told : SaysUnsettled g.L.Files coloring lockfile was.failed (g.L.Files.failed c.if-host.lockfiles) (Ok false) (stream_of g.E.Sink c.args.host.now.err.now) (stream_of g.E.Sink c.if-host.host.err.now) = elim c.if-host.branch [
+    let told : SaysUnsettled g.L.Files by_guard coloring lockfile was.failed (g.L.Files.failed c.if-host.lockfiles) (Ok false) (stream_of g.E.Sink c.args.host.now.err.now) (stream_of g.E.Sink c.if-host.host.err.now) = elim c.if-host.branch [
       | then-host+in_ok-is_settled w ↦
-          rw (w.host-is, w.lockfiles-is) (undone g.L.Files coloring lockfile _ _ was (files_view g.L.Files w.give_back.new.lockfiles) w.in_ok-is_settled.is_settled _ _ (sym w.is_settled-is ∙ c.if-not-is_settled.true) w.in_ok-is_settled.ensures.said)
+          rw (w.host-is, w.lockfiles-is, w.if-host.true) (undone g.L.Files true coloring dir lockfile _ was (files_view g.L.Files w.give_back.new.lockfiles) w.in_ok-is_settled.is_settled _ _ (sym w.is_settled-is ∙ c.if-not-is_settled.true) w.in_ok-is_settled.ensures.said)
       | else-host+in_ok-is_settled-2 w ↦
-          rw (w.host-is, w.lockfiles-is) (undone g.L.Files coloring lockfile _ _ was (files_view g.L.Files w.leave.new.lockfiles) w.in_ok-is_settled-2.is_settled _ _ (sym w.is_settled-is ∙ c.if-not-is_settled.true) w.in_ok-is_settled-2.ensures.said)
+          rw (w.host-is, w.lockfiles-is, w.if-host.false) (undone g.L.Files false coloring dir lockfile _ was (files_view g.L.Files w.leave.new.lockfiles) w.in_ok-is_settled-2.is_settled _ _ (sym w.is_settled-is ∙ c.if-not-is_settled.true) w.in_ok-is_settled-2.ensures.said)
     ] in
     unsettled c.in-Ok-Some.bytes.items held (λ t. c.in-Ok-Some.ensures.same t (string_bytes c.args.places.now.copy) ∙ held t) c.in-Ok-Some.ensures.failures told
 
@@ -65,11 +66,11 @@ returns-clause-said g c =
     let coloring = c.args.host.now.term.now.coloring in
     let bytes = c.in-Ok-Some.bytes.items in
     let was : FilesView = files_view g.L.Files c.args.lockfiles.now in
-    let told : SaysIfOther g.L.Files.tells (was.held lockfile) bytes (info_line coloring (lockfile_text c.args.host.now.env.now.by_guard dir lockfile)) (stream_of g.E.Sink c.args.host.now.err.now) (stream_of g.E.Sink c.if-host.host.err.now) = elim c.if-host.branch [
+    let told : SaysIfOther c.args.host.now.env.now.by_guard coloring dir lockfile g.L.Files.tells (was.held lockfile) bytes (stream_of g.E.Sink c.args.host.now.err.now) (stream_of g.E.Sink c.if-host.host.err.now) = elim c.if-host.branch [
       | then-host+in_ok-is_settled w ↦
-          rw (w.host-is, w.if-host.true) (rw w.deref.ensures.value at (done_so g.L.Files coloring lockfile w.deref.result.now _ was (files_view g.L.Files w.give_back.new.lockfiles) w.in_ok-is_settled.is_settled _ _ (sym w.is_settled-is ∙ c.if-not-is_settled.false) w.in_ok-is_settled.ensures.said))
+          rw (w.host-is, w.if-host.true) (rw w.deref.ensures.value at (done_so g.L.Files true coloring dir lockfile w.deref.result.now was (files_view g.L.Files w.give_back.new.lockfiles) w.in_ok-is_settled.is_settled _ _ (sym w.is_settled-is ∙ c.if-not-is_settled.false) w.in_ok-is_settled.ensures.said))
       | else-host+in_ok-is_settled-2 w ↦
-          rw (w.host-is, w.if-host.false) (rw w.deref-else-host.ensures.value at (done_so g.L.Files coloring lockfile w.deref-else-host.result.now _ was (files_view g.L.Files w.leave.new.lockfiles) w.in_ok-is_settled-2.is_settled _ _ (sym w.is_settled-is ∙ c.if-not-is_settled.false) w.in_ok-is_settled-2.ensures.said))
+          rw (w.host-is, w.if-host.false) (rw w.deref-else-host.ensures.value at (done_so g.L.Files false coloring dir lockfile w.deref-else-host.result.now was (files_view g.L.Files w.leave.new.lockfiles) w.in_ok-is_settled-2.is_settled _ _ (sym w.is_settled-is ∙ c.if-not-is_settled.false) w.in_ok-is_settled-2.ensures.said))
     ] in
     let still : c.if-host.host.term.now ≡ c.args.host.now.term.now = elim c.if-host.branch [
       | then-host+in_ok-is_settled w ↦

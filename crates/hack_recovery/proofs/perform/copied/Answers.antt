@@ -17,7 +17,7 @@ returns-in-Ok-clause-goes g c = λ locks guards.
     let old : Scene = scene_of g.F.Files g.L.Files g.U.Unkept g.C.Caller g.O.Sink g.E.Sink c.keep_copy.new.files c.keep_copy.new.lockfiles c.args.unkept locks guards c.args.host.now in
     let at : Scene = scene_with old.files c.args.host.now.term.now (stream_of g.E.Sink c.keep_copy.new.err) old in
     copied at
-    (record { copied = c.in-Ok.ensures.copied; counted = (c.in-Ok.ensures.counted, c.in-Ok.ensures.lockfiles_counted); failed = (c.in-Ok.ensures.failed, c.in-Ok.ensures.lockfiles_failed); others = c.in-Ok.ensures.others; made = c.in-Ok.ensures.made; same = record { same = c.in-Ok.ensures.same; untraced = c.in-Ok.ensures.untraced }; host = refl; ends = c.in-Ok.ensures.ends; quiet = record { calls = refl; out = refl; stdout = refl; fails = refl; unkept = refl; locks = refl; guards = refl } })
+    (record { copied = c.in-Ok.ensures.copied; counted = (c.in-Ok.ensures.counted, c.in-Ok.ensures.lockfiles_counted); failed = (c.in-Ok.ensures.failed, c.in-Ok.ensures.lockfiles_failed); others = c.in-Ok.ensures.others; made = c.in-Ok.ensures.made; undone = c.in-Ok.ensures.undone; same = record { same = c.in-Ok.ensures.same; untraced = c.in-Ok.ensures.untraced }; host = refl; ends = c.in-Ok.ensures.ends; quiet = record { calls = refl; out = refl; stdout = refl; fails = refl; unkept = refl; locks = refl; guards = refl } })
     (c.over_journal.ensures.goes locks guards)
 
 pub returns-in-Err-clause-goes : goal.returns-in-Err-clause-goes
@@ -25,7 +25,7 @@ returns-in-Err-clause-goes g c = λ locks guards.
     let old : Scene = scene_of g.F.Files g.L.Files g.U.Unkept g.C.Caller g.O.Sink g.E.Sink c.keep_copy.new.files c.keep_copy.new.lockfiles c.args.unkept locks guards c.args.host.now in
     let at : Scene = scene_with old.files c.args.host.now.term.now (stream_of g.E.Sink c.keep_copy.new.err) old in
     uncopied at c.in-Err.fault
-    (record { copied = tt; counted = tt; failed = (c.in-Err.ensures.failed, c.in-Err.ensures.lockfiles_failed); others = c.in-Err.ensures.others; made = c.in-Err.ensures.made; same = record { same = c.in-Err.ensures.same; untraced = c.in-Err.ensures.untraced }; host = refl; ends = c.in-Err.ensures.ends; quiet = record { calls = refl; out = refl; stdout = refl; fails = refl; unkept = refl; locks = refl; guards = refl } })
+    (record { copied = tt; counted = tt; failed = (c.in-Err.ensures.failed, c.in-Err.ensures.lockfiles_failed); others = c.in-Err.ensures.others; made = c.in-Err.ensures.made; undone = c.in-Err.ensures.undone; same = record { same = c.in-Err.ensures.same; untraced = c.in-Err.ensures.untraced }; host = refl; ends = c.in-Err.ensures.ends; quiet = record { calls = refl; out = refl; stdout = refl; fails = refl; unkept = refl; locks = refl; guards = refl } })
     (c.report.ensures.refuses at.files at.lockfiles at.unkept locks guards)
 
 pub returns-in-Ok-clause-in_lanes : goal.returns-in-Ok-clause-in_lanes
@@ -37,7 +37,7 @@ returns-in-Ok-clause-in_lanes g c =
     let last : Scene = scene_with old.files c.args.host.now.term.now (stream_of g.E.Sink c.keep_copy.new.err) old in
     over_journal (last.files, last.lockfiles) (places_view c.args.begun.places) refl
     (ready (places_view c.args.begun.places) refl first last
-    (record { copied = c.in-Ok.ensures.copied; counted = (c.in-Ok.ensures.counted, c.in-Ok.ensures.lockfiles_counted); failed = (c.in-Ok.ensures.failed, c.in-Ok.ensures.lockfiles_failed); others = c.in-Ok.ensures.others; made = c.in-Ok.ensures.made; same = record { same = c.in-Ok.ensures.same; untraced = c.in-Ok.ensures.untraced }; host = refl; ends = c.in-Ok.ensures.ends; quiet = record { calls = refl; out = refl; stdout = refl; fails = refl; unkept = refl; locks = refl; guards = refl } })
+    (record { copied = c.in-Ok.ensures.copied; counted = (c.in-Ok.ensures.counted, c.in-Ok.ensures.lockfiles_counted); failed = (c.in-Ok.ensures.failed, c.in-Ok.ensures.lockfiles_failed); others = c.in-Ok.ensures.others; made = c.in-Ok.ensures.made; undone = c.in-Ok.ensures.undone; same = record { same = c.in-Ok.ensures.same; untraced = c.in-Ok.ensures.untraced }; host = refl; ends = c.in-Ok.ensures.ends; quiet = record { calls = refl; out = refl; stdout = refl; fails = refl; unkept = refl; locks = refl; guards = refl } })
     refl refl)
     (rw (ap (λ (s : Spot). s.journal) c.requires.place) at c.over_journal.ensures.in_lanes)
 

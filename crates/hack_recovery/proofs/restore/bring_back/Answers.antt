@@ -2,17 +2,13 @@ use Rattle.std.proofs.Common.{refl}
 use Rattle.hack_base.specs.Names.{names_of}
 use Rattle.hack_base.specs.Streams.{stream_of}
 use Rattle.hack_recovery.specs.Restoring.IsBroughtBack.{brought, stopped}
-use Rattle.hack_recovery.proofs.WayLemmas.{never_false, tells_same}
 use Rattle.hack_recovery.proofs.restore.bring_back.Goals as goal
 
 pub returns-in-Ok-clause-came : goal.returns-in-Ok-clause-came
 returns-in-Ok-clause-came g c =
     let came = c.in-Ok.ensures in
     brought (names_of c.in-Ok.paths.items) (record { failures = came.failures; restored = came.restored; still = came.still; comes_back = came.comes_back; safe = came.safe; safe_after_cut = came.safe_after_cut })
-    (never_false c.tell_all.result c.tell_all.ensures.done) (rw c.deref.ensures.value at c.tell_all.ensures.said)
-
-pub returns-in-Ok-clause-told : goal.returns-in-Ok-clause-told
-returns-in-Ok-clause-told g c = tells_same c.args.term.now c.tell_all.result c.tell_all.ensures.done c.tell_all.ensures.fault
+    refl (rw c.deref.ensures.value at c.tell_all.ensures)
 
 pub returns-in-Err-clause-came : goal.returns-in-Err-clause-came
 returns-in-Err-clause-came g c =

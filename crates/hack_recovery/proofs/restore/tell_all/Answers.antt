@@ -1,10 +1,9 @@
 use Rattle.std.proofs.Common.{◌≡◌, ◌∙◌, ◌++◌, ◌+◌, ◌∷◌, [], List, ap, refl, subst, sym, take}
 use Rattle.std.proofs.lemmas.List.{take_all}
-use Rattle.std.proofs.lemmas.Result.{err_from_is_err_and}
 use Rattle.hack_base.proofs.NameLemmas.{length-names, names-more}
 use Rattle.hack_base.specs.Names.{Name, names_of}
-use Rattle.hack_base.specs.Streams.{WritesAll, stream_of}
-use Rattle.hack_recovery.specs.Telling.{restored_lines}
+use Rattle.hack_base.specs.Streams.{stream_of}
+use Rattle.hack_recovery.specs.Telling.{SaysRestored}
 use Rattle.hack_recovery.proofs.SaidLemmas.{said_more}
 use Rattle.hack_recovery.proofs.restore.tell_all.Goals as goal
 
@@ -17,13 +16,8 @@ loop-path-preserved g c =
     let path = c.as_str.result.now in
     let more : take (c.loop-path.path-index + 1) (names_of c.args.paths.now) ≡ before ++ path ∷ [] =
     names-more c.args.paths.now c.loop-path.path-index c.path-item.result c.loop-path-test.true c.path-item.is ∙ ap (λ n. before ++ n ∷ []) (sym c.as_str.ensures.value) in
-    said_more c.args.term.now.coloring c.args.dir.now before _ path _ (stream_of g.E.Sink c.loop-path.err) _ more c.loop-path.invariant c.in_ok-tell_restored.ensures.said
+    said_more c.args.term.now.coloring c.args.dir.now before _ path _ (stream_of g.E.Sink c.loop-path.err) _ more c.loop-path.invariant c.tell_restored.ensures
 
-pub returns-in_err-tell_restored-clause-said : goal.returns-in_err-tell_restored-clause-said
-returns-in_err-tell_restored-clause-said g c =
-    let p = err_from_is_err_and c.from_residual.result c.from_residual.ensures.1 in
-    rw (p.1, c.in_err-tell_restored.ensures.said) (c.loop-path.path-index, rw (length-names c.args.paths.now) c.loop-path-test.true, c.loop-path.invariant)
-
-pub returns-clause-said : goal.returns-clause-said
-returns-clause-said g c =
-    subst (λ (l : List Name). WritesAll (restored_lines c.args.term.now.coloring c.args.dir.now l) (stream_of g.E.Sink c.args.err.now) (stream_of g.E.Sink c.loop-path.err)) (take_all c.loop-path.path-index (names_of c.args.paths.now) (rw (length-names c.args.paths.now) c.loop-path-test.false)) c.loop-path.invariant
+pub returns : goal.returns
+returns g c =
+    subst (λ (l : List Name). SaysRestored c.args.term.now.coloring c.args.dir.now l (stream_of g.E.Sink c.args.err.now) (stream_of g.E.Sink c.loop-path.err)) (take_all c.loop-path.path-index (names_of c.args.paths.now) (rw (length-names c.args.paths.now) c.loop-path-test.false)) c.loop-path.invariant
