@@ -10,6 +10,7 @@ mod CountLemmas
 mod CutLemmas
 mod SafeCutLemmas
 mod KnownLemmas
+mod NearerLemmas
 pub mod OnceLemmas
 pub mod RefusingLemmas
 pub mod FailedLemmas

@@ -121,7 +121,7 @@ nears_then j o m n w f g q = elim (g q) [
 ]
 
 -- what holds after every front holds at the end
-at_end : (P : Contents → Type 0) (t u : Trace) (m n : Contents) → AfterEachFront P t u m n → P n
+pub at_end : (P : Contents → Type 0) (t u : Trace) (m n : Contents) → AfterEachFront P t u m n → P n
 at_end P t u m n f = subst P (sym f.makes.holds) (subst (λ (cs : List Change). P (after cs m)) (take-length f.added) (f.fronts (length f.added)))
 
 -- several steps, one after another
@@ -253,6 +253,12 @@ origin_is : (f : Option Edit) (x held : Option (List ℕ)) → ¬ (f ≡ None) �
 unfolding origin_of
 origin_is None x held some agrees = absurd (some refl)
 origin_is (Some e) x held some agrees = agrees
+
+-- it is what the path holds, or what its first entry keeps
+pub origin_cases : (f : Option Edit) (x now : Option (List ℕ)) → now ≡ origin_of f x → (now ≡ x) ⊎ ((e : Edit) × (f ≡ Some e) × (now ≡ e.held))
+unfolding origin_of
+origin_cases None x now is = inl is
+origin_cases (Some e) x now is = inr (e, refl, is)
 
 origin_keeps_of : (j : List ℕ) (all : List Edit) (m : Contents) (es : List Edit) → AreOfCall j all es → ((q : List ℕ) → HasEntry es q → HasEntry all q) → KeepFirst j (origin all m) es
 origin_keeps_of j all m [] h sub = tt

@@ -7,7 +7,7 @@ use Rattle.hack_files.specs.declared.fs.FsFault.TheVariants as fs
 use Rattle.hack_base.specs.PathTexts.{is_rooted}
 use Rattle.hack_journal.specs.Journal.{Edit}
 use Rattle.hack_journal.specs.Keeping.{climbing_way}
-use Rattle.hack_journal.specs.Rows.{Noted, Spot, AreFirst, IsFresh, IsTextOf, file_at, is_of_journal, leads_to}
+use Rattle.hack_journal.specs.Rows.{Noted, Spot, AreFirst, IsBeside, IsFresh, IsTextOf, file_at, is_of_journal, leads_to}
 use Rattle.hack_journal.specs.SafeFiles.{AfterEachFront, KeepFirst, IsSafe, StaysSafe, gives, changes_besides, IsJournaled, first_entry_of}
 use Rattle.hack_journal.specs.Strangers.{first_stranger, is_edit_of_manifest}
 use Rattle.hack_journal.specs.declared.recover.RecoverFault.{RecoverFault}
@@ -157,6 +157,11 @@ PutsBack journal first old_trace new_trace old new = AfterEachFront (Nears journ
 abbrev pub PutsBackOrSafe : Spot → Contents → Trace → Trace → Contents → Contents → Type 0
 PutsBackOrSafe spot first old_trace new_trace old new =
     AfterEachFront (λ now. Nears spot.journal first old now ⊎ IsSafe spot first now) old_trace new_trace old new
+
+-- each path but those of the row's first k files holds what it held, or again what it held at first
+abbrev pub NearsBeside : List ℕ → ℕ → Contents → Contents → Contents → Type 0
+NearsBeside journal k first old now =
+    (q : List ℕ) → IsBeside journal k q → (now q ≡ old q) ⊎ (now q ≡ first q)
 
 -- all is put back but the row, which has `count` files
 pub record IsBackBut (spot : Spot) (first : Contents) (count : ℕ) (now : Contents) : Type 0 where

@@ -85,6 +85,12 @@ SparesOthers spot old new = KeepsAll old new ⊎ ((edits : List Edit) × (row : 
     × AreTold edits edits old × ((path : List ℕ) → IsBeside spot.journal row.count path
     → ¬ HasEntry edits path → new path ≡ old path))
 
+-- nothing was changed; or each path beside the row holds what it held, or what its first entry keeps
+abbrev pub ComesNearer : Spot → Contents → Contents → Type 0
+ComesNearer spot old new = KeepsAll old new ⊎ ((edits : List Edit) × (row : IsRowOf spot old edits)
+    × ((path : List ℕ) → IsBeside spot.journal row.count path
+    → (new path ≡ old path) ⊎ ((e : Edit) × (first_entry_of edits path ≡ Some e) × (new path ≡ e.held))))
+
 -- a file is at the journal's path, and its row holds no entries as a call writes them
 abbrev pub IsNoJournal : Spot → Contents → Type 0
 IsNoJournal spot old =

@@ -7,7 +7,8 @@ ghost use Rattle.hack_files.specs.Files.{Contents, KeepsAll, KeepsOthers, Makes,
 ghost use Rattle.hack_files.specs.Files.{after, after_change};
 ghost use Rattle.hack_journal.specs.Journal.{edit_of, edits_of};
 ghost use Rattle.hack_journal.specs.Rows.{Spot, spot_of, file_at, IsBeside, KeepsBeside};
-ghost use Rattle.hack_journal.specs.SafeFiles.{IsKeptBy, IsSafe, StaysSafe, KeepFirst, gives};
+ghost use Rattle.hack_journal.specs.SafeFiles.{AfterEachFront, IsKeptBy, IsSafe, StaysSafe};
+ghost use Rattle.hack_journal.specs.SafeFiles.{KeepFirst, gives};
 ghost use Rattle.hack_journal.specs.CutFiles.{IsSafeOrCut, StaysSafeOrCut};
 ghost use Rattle.hack_journal.specs.Recovery.{AreTold, AreChanged, IsRestored, IsWhy, HasEntry};
 ghost use Rattle.hack_journal.specs.Recovery.{IsJournalRefusal, IsFailureCounted, IsOwn};
@@ -15,8 +16,9 @@ ghost use Rattle.hack_journal.specs.FailedCalls.{FailsOnlySo};
 ghost use Rattle.hack_journal.specs.Internal.{AddsChanged, AddsIfOther, backs, IsBackBut};
 ghost use Rattle.hack_journal.specs.Internal.{IsFilesFault, IsMemoryRefused, IsFileOfRow};
 ghost use Rattle.hack_journal.specs.Internal.{IsFileOrEntry, PutsBack, PutsBackOrSafe};
-ghost use Rattle.hack_journal.specs.Internal.{IsWhyNotTold, IsWriteFault};
-ghost use Rattle.hack_journal.specs.Recovery.{IsJournalOrItsEntry, KeepsNoEntry, SparesOthers};
+ghost use Rattle.hack_journal.specs.Internal.{IsWhyNotTold, IsWriteFault, NearsBeside};
+ghost use Rattle.hack_journal.specs.Recovery.{ComesNearer, IsJournalOrItsEntry, KeepsNoEntry};
+ghost use Rattle.hack_journal.specs.Recovery.{SparesOthers};
 
 use crate::contents::{look, put};
 use crate::cuts::is_own;
@@ -268,6 +270,9 @@ fn remove_files<F: JournalFiles>(
         F.bytes_at files.new (file_at journal.now i) ≡ None) }
     ensures others { F.tells →
         KeepsBeside journal.now count (F.bytes_at files.old) (F.bytes_at files.new) }
+    ensures besides { F.whole → AfterEachFront (KeepsBeside journal.now count
+        (F.bytes_at files.old)) (F.trace files.old) (F.trace files.new)
+        (F.bytes_at files.old) (F.bytes_at files.new) }
     ensures safe { F.whole → (spot : Spot) (first : Contents) → spot.journal ≡ journal.now →
         IsBackBut spot first count (F.bytes_at files.old) →
         StaysSafe spot first (F.trace files.old) (F.trace files.new)
@@ -310,6 +315,11 @@ fn take_back<F: JournalFiles>(
         (by : IsKeptBy IsOwn (spot_of place.now) first (edits_of row.now.entries.items)
         (F.bytes_at files.old)) → by.row.count ≡ row.now.count →
         PutsBackOrSafe (spot_of place.now) first (F.trace files.old) (F.trace files.new)
+        (F.bytes_at files.old) (F.bytes_at files.new) }
+    ensures nearer { F.whole → (first : Contents) →
+        KeepFirst (string_bytes place.now.journal) first (edits_of row.now.entries.items) →
+        AfterEachFront (NearsBeside (string_bytes place.now.journal) row.now.count first
+        (F.bytes_at files.old)) (F.trace files.old) (F.trace files.new)
         (F.bytes_at files.old) (F.bytes_at files.new) }
     ensures others { F.tells → (path : List ℕ)
         → IsBeside (string_bytes place.now.journal) row.now.count path
@@ -363,6 +373,11 @@ pub fn recover<F: JournalFiles>(
     // only where each holds what a call left there.
     ensures spared { IfErr result (λ _. F.tells → SparesOthers (spot_of place.now)
         (F.bytes_at files.old) (F.bytes_at files.new)) }
+    // Nothing is edited again: at each moment, and so after an error, each path beside the row holds
+    // what it held before the call, or what it held at first.
+    ensures nearer { F.tells → F.whole → AfterEachFront
+        (ComesNearer (spot_of place.now) (F.bytes_at files.old)) (F.trace files.old)
+        (F.trace files.new) (F.bytes_at files.old) (F.bytes_at files.new) }
     // A refusal changes nothing.
     ensures refused { IfErr result (λ fault. IsJournalRefusal fault → F.tells →
         KeepsAll (F.bytes_at files.old) (F.bytes_at files.new)) }

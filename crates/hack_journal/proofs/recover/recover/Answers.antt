@@ -12,6 +12,7 @@ use Rattle.hack_journal.proofs.FailedLemmas.{ends_then, ends_wider, fault_then, 
 use Rattle.hack_files.specs.TraceLaws.{makes_more}
 use Rattle.hack_journal.specs.SafeLaws.{stay_none}
 use Rattle.hack_journal.proofs.FinishLemmas.{all_same}
+use Rattle.hack_journal.proofs.NearerLemmas.{nearer_by, nearer_still}
 use Rattle.hack_journal.proofs.RowLemmas.{row_of}
 use Rattle.hack_journal.proofs.RecoverLemmas.{looked_puts, never_cut_no_journal, puts_stay, safe_at, safe_cut, safe_told, why_unread, file_or_entry, why_failed, why_not_told, never_not_told, told_at, restored_of, comes_back_of, on_err_always, on_three, on_two, safe_none}
 use Rattle.hack_journal.proofs.recover.recover.Goals as goal
@@ -161,3 +162,19 @@ returns-in_err-check_all-clause-safe g c = λ tells whole first safe.
 pub returns-in_err-check_all-clause-safe_after_cut : goal.returns-in_err-check_all-clause-safe_after_cut
 returns-in_err-check_all-clause-safe_after_cut g c = λ tells whole first safe.
     stay_none _ _ _ _ _ (makes_more [] [] _ _ _ _ _ _ (c.in_ok-row.ensures.untraced whole) (c.in_err-check_all.ensures.untraced whole)) safe
+
+pub returns-in_err-row-clause-nearer : goal.returns-in_err-row-clause-nearer
+returns-in_err-row-clause-nearer g c = λ tells whole. nearer_still _ _ _ _ _ (c.in_err-row.ensures.untraced whole)
+
+pub returns-in_default-clause-nearer : goal.returns-in_default-clause-nearer
+returns-in_default-clause-nearer g c = λ tells whole. nearer_still _ _ _ _ _ (c.in_ok-row.ensures.untraced whole)
+
+pub returns-in_err-check_all-clause-nearer : goal.returns-in_err-check_all-clause-nearer
+returns-in_err-check_all-clause-nearer g c = λ tells whole.
+    nearer_still _ _ _ _ _ (makes_more [] [] _ _ _ _ _ _ (c.in_ok-row.ensures.untraced whole) (c.in_err-check_all.ensures.untraced whole))
+
+pub returns-clause-nearer : goal.returns-clause-nearer
+returns-clause-nearer g c = λ tells whole.
+    let row = c.in-Some.row in
+    let looks = makes_more [] [] _ _ _ _ _ _ (c.in_ok-row.ensures.untraced whole) (c.in_ok-check_all.ensures.untraced whole) in
+    nearer_by (spot_of c.args.place.now) row.count (edits_of row.entries.items) _ _ _ _ _ _ (c.in_ok-row.ensures.some row c.in-Some.is tells) (c.in_ok-row.ensures.of_call row c.in-Some.is) looks (c.take_back.ensures.nearer whole)

@@ -7,6 +7,7 @@ use Rattle.hack_journal.specs.Internal.{IsFileOfRow, IsFileOrEntry}
 use Rattle.hack_journal.specs.Rows.{spot_of}
 use Rattle.hack_files.proofs.FailedLemmas.{none_then}
 use Rattle.hack_journal.proofs.FailedLemmas.{fault_then, fault_wider}
+use Rattle.hack_journal.proofs.NearerLemmas.{nears_beside, nears_removed}
 use Rattle.hack_journal.proofs.RecoverLemmas.{changed_along, puts_safe, puts_then_safe}
 use Rattle.hack_journal.proofs.RemovalLemmas.{back_but_of}
 use Rattle.hack_journal.proofs.RowLemmas.{apart_from}
@@ -68,3 +69,23 @@ returns-in_err-remove_files-clause-calls g c =
     let p = err_from_is_err_and c.from_residual-in_err-remove_files.result c.from_residual-in_err-remove_files.ensures.1 in
     let calls = rw c.deref-2.ensures at c.in_err-remove_files.ensures.calls in
     rw (p.1, p.2) (fault_then g.F.Files P _ _ _ _ c.in_ok-put_all_back.ensures.calls (fault_wider g.F.Files (IsFileOfRow j count) P (λ q file. inl file) _ _ _ calls))
+
+pub returns-in_err-put_all_back-clause-nearer : goal.returns-in_err-put_all_back-clause-nearer
+returns-in_err-put_all_back-clause-nearer g c = λ whole first keeps.
+    let j = string_bytes c.args.place.now.journal in
+    let safe = rw (ap edits_of c.deref.ensures.value) at c.in_err-put_all_back.ensures.safe in
+    nears_beside j c.args.row.now.count first _ _ _ _ (safe whole j first keeps)
+
+pub returns-in_err-remove_files-clause-nearer : goal.returns-in_err-remove_files-clause-nearer
+returns-in_err-remove_files-clause-nearer g c = λ whole first keeps.
+    let j = string_bytes c.args.place.now.journal in
+    let safe = rw (ap edits_of c.deref.ensures.value) at c.in_ok-put_all_back.ensures.safe in
+    let besides = rw c.deref-2.ensures at c.in_err-remove_files.ensures.besides in
+    nears_removed j c.args.row.now.count first _ _ _ _ _ _ (safe whole j first keeps) (besides whole)
+
+pub returns-clause-nearer : goal.returns-clause-nearer
+returns-clause-nearer g c = λ whole first keeps.
+    let j = string_bytes c.args.place.now.journal in
+    let safe = rw (ap edits_of c.deref.ensures.value) at c.in_ok-put_all_back.ensures.safe in
+    let besides = rw c.deref-2.ensures at c.in_ok-remove_files.ensures.besides in
+    nears_removed j c.args.row.now.count first _ _ _ _ _ _ (safe whole j first keeps) (besides whole)
