@@ -1,26 +1,30 @@
 //! The tables of rules in manifests: the notices on the names that they have, and their faults.
 
-ghost use Rattle.std.specs.Prelude.{◌≡◌, ◌⊎◌, ◌==◌, IfErr, IfOk, None, OnOk};
+ghost use Rattle.std.specs.Prelude.{◌≡◌, ◌⊎◌, ◌==◌, ◌∷◌, [], IfErr, IfOk, None, Ok, OnOk, false, true};
 ghost use Rattle.std.specs.Prelude.{filter, flat_map, fold, map, not, option_copied};
-ghost use Rattle.std.specs.List.{find, list_any};
+ghost use Rattle.std.specs.List.{find, list_all, list_any};
+ghost use Rattle.std.specs.Option.{option_map_or};
 ghost use Rattle.hack_base.specs.Names.{names_of};
 ghost use Rattle.hack_base.specs.Notes.{note_of, warning_note};
 ghost use Rattle.hack_features.specs.Feature.{groups_of};
 ghost use Rattle.hack_load.specs.ContextView.{context_view};
-ghost use Rattle.hack_load.specs.Contexts.{features_at};
-ghost use Rattle.hack_metadata.specs.RecordViews.{package_view, place_at, rules_view};
-ghost use Rattle.hack_planner.specs.Calls.{grouped_at, own_fault_at, package_notes, table_fault};
+ghost use Rattle.hack_load.specs.Contexts.{features_at, package_at};
+ghost use Rattle.hack_metadata.specs.RecordViews.{package_view, place_at, rules_reading, rules_view};
+ghost use Rattle.hack_planner.specs.Calls.{grouped_at, have_no_rule as no_rule_in, member_may_have};
+ghost use Rattle.hack_planner.specs.Calls.{own_fault_at, package_notes, table_fault};
+ghost use Rattle.hack_planner.specs.Calls.{workspace_notes as notes_on_workspace};
 ghost use Rattle.hack_planner.specs.Internal.{SaysFault};
 ghost use Rattle.hack_planner.specs.PackageRules.{rules_in};
-ghost use Rattle.hack_planner.specs.RulesFor.{each_once, first_excluded, first_there};
+ghost use Rattle.hack_planner.specs.RulesFor.{each_once, first_excluded, first_there, has_no_rule as rule_missing};
 ghost use Rattle.hack_planner.specs.RulesFor.{is_excluded as excludes, kept_once, names_of_table};
 ghost use Rattle.hack_planner.specs.RulesFor.{may_have, own_fault, table_notes as notes_on_table};
-ghost use Rattle.hack_planner.specs.Texts.{table_text as unknown_name};
+ghost use Rattle.hack_planner.specs.Texts.{no_rules_text, table_text as unknown_name};
+ghost use Rattle.hack_planner.specs.Texts.{workspace_text as unheard_name};
 
-use crate::candidates::{has_name, is_found, notes_on};
+use crate::candidates::{has_name, has_no_feature, is_found, notes_on};
 use crate::fault::PlanFault;
-use crate::notes::table_text;
-use crate::package_rules::PackageRules;
+use crate::notes::{table_text, workspace_text};
+use crate::package_rules::{PackageRules, has_names};
 use hack_base::notice::{Notice, NoticeKind, tell};
 use hack_features::Feature;
 use hack_load::context::Context;
@@ -150,6 +154,132 @@ fn add_names(names: &mut Vec<String>, more: &[String]) -> Result<(), AllocError>
             add_names(names, rest)
         }
     }
+}
+
+/// What is said where no table has a rule.
+const NO_RULES: &str = "--package-rules found no rule: neither [workspace.metadata.cargo-hack] nor [package.metadata.cargo-hack] of a member has one";
+
+/// Under `--package-rules` a warning where neither the workspace's table nor that of a member has a
+/// rule, else one for each name of the workspace's that no member has.
+pub(crate) fn workspace_notes(alloc: Global, cx: &Context) -> Result<Vec<Notice>, AllocError>
+    ensures { IfOk result (λ notices. map note_of notices.items
+        ≡ notes_on_workspace (context_view cx.now)) }
+{
+    if !cx.args().package_rules {
+        return Ok(Vec::new(alloc));
+    }
+    if have_no_rule(cx) {
+        return no_rules_note(alloc);
+    }
+    match &cx.metadata().rules {
+        Ok(table) => {
+            let names = table_names(alloc, table)?;
+            unheard_notes(alloc, cx, &names)
+        }
+        Err(_) => Ok(Vec::new(alloc)),
+    }
+}
+
+/// The warning that no table has a rule.
+fn no_rules_note(alloc: Global) -> Result<Vec<Notice>, AllocError>
+    ensures { IfOk result (λ notices. map note_of notices.items
+        ≡ warning_note no_rules_text ∷ []) }
+{
+    let mut notices = Vec::new(alloc);
+    let text = String::from_str(alloc, NO_RULES)?;
+    tell(&mut notices, true, NoticeKind::Warn, text)?;
+    Ok(notices)
+}
+
+/// A warning for each of these names that no member has.
+fn unheard_notes(
+    alloc: Global,
+    cx: &Context,
+    names: &[String],
+) -> Result<Vec<Notice>, AllocError>
+    ensures { IfOk result (λ notices. map note_of notices.items
+        ≡ map (λ x. warning_note (unheard_name x))
+        (filter (λ x. not (member_may_have (context_view cx.now) x)) (names_of names.now))) }
+{
+    let mut notices = Vec::new(alloc);
+    for name in names {
+        let text = workspace_text(alloc, name.as_str())?;
+        let told = !one_may_have(cx, cx.workspace_members(), name.as_str());
+        tell(&mut notices, told, NoticeKind::Warn, text)?;
+    }
+    Ok(notices)
+}
+
+/// Whether one of these members may have the name.
+#[tactic(auto, using(hack_base::proofs::Chains::mapped))]
+fn one_may_have(cx: &Context, ids: &[PackageId], name: &str) -> bool
+    ensures { result ≡ list_any (λ id. option_map_or
+        (λ f. may_have (context_view cx.now).args.include_deps_features f name.now)
+        (features_at (context_view cx.now) id) false) (map place_at ids.now) }
+{
+    ids.iter().any(|id| may_have_at(cx, *id, name))
+}
+
+/// Whether a package is a member that may have the name.
+fn may_have_at(cx: &Context, id: PackageId, name: &str) -> bool
+    ensures { result ≡ option_map_or
+        (λ f. may_have (context_view cx.now).args.include_deps_features f name.now)
+        (features_at (context_view cx.now) id.index) false }
+{
+    match features_of(cx, id) {
+        Some(features) => is_had(features, name, cx.args().include_deps_features),
+        None => false,
+    }
+}
+
+/// Whether neither the workspace's table nor that of a member has a rule.
+fn have_no_rule(cx: &Context) -> bool
+    ensures { result ≡ no_rule_in (context_view cx.now) }
+{
+    has_no_rule(&cx.metadata().rules) && none_has_rule(cx, cx.workspace_members())
+}
+
+/// Whether no table of these packages has a rule.
+#[tactic(auto, using(hack_base::proofs::Chains::mapped))]
+fn none_has_rule(cx: &Context, ids: &[PackageId]) -> bool
+    ensures { result ≡ list_all (λ id. option_map_or (λ p. rule_missing p.rules)
+        (package_at (context_view cx.now) id) true) (map place_at ids.now) }
+{
+    ids.iter().all(|id| has_no_rule_at(cx, *id))
+}
+
+/// Whether a package's table has no rule.
+fn has_no_rule_at(cx: &Context, id: PackageId) -> bool
+    ensures { result ≡ option_map_or (λ p. rule_missing p.rules)
+        (package_at (context_view cx.now) id.index) true }
+{
+    match cx.metadata().find(id) {
+        Some(pkg) => has_no_rule(&pkg.rules),
+        None => true,
+    }
+}
+
+/// Whether a table has no rule. One that has a fault doesn't count as such.
+fn has_no_rule(rules: &Result<RulesTable, String>) -> bool
+    ensures { result ≡ rule_missing (rules_reading rules.now) }
+{
+    match rules {
+        Ok(table) => is_without_rule(table),
+        Err(_) => false,
+    }
+}
+
+/// Whether the table is as one that isn't there.
+fn is_without_rule(table: &RulesTable) -> bool
+    ensures { result ≡ rule_missing (Ok (rules_view table.now)) }
+{
+    let names = has_names(&table.exclude_features)
+        || !has_no_feature(&table.mutually_exclusive_features)
+        || !has_no_feature(&table.at_least_one_of)
+        || !has_no_feature(&table.group_features);
+    let limits = table.depth.is_some() || table.strength.is_some();
+    let flags = table.exclude_no_default_features || table.exclude_all_features;
+    !(names || table.optional_deps.is_some() || flags || limits)
 }
 
 /// Refuses the call where a table has a fault: under `--package-rules` the workspace's, or that of
