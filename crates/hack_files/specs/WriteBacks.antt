@@ -3,6 +3,7 @@ use Rattle.std.specs.Prelude.{◌≡◌, ◌⊎◌, ◌++◌, [], ◌∷◌, ℕ
 use Rattle.std.specs.List.{filter, flat_map}
 use Rattle.std.specs.Str.{bytes_eq}
 use Rattle.hack_base.specs.Counters.{GrowsBy}
+use Rattle.hack_base.specs.Cuts.{front_of}
 use Rattle.hack_base.specs.Streams.{Stream, WritesAll, WritesText}
 use Rattle.hack_term.specs.Lines.{error_line, info_line}
 use Rattle.hack_term.specs.declared.term.Coloring.{Coloring}
@@ -48,6 +49,6 @@ pub record SaysBack {F : Type 0} (f : Filing F) (before after : F) (coloring : C
   pub back : f.tells → AreDistinct files → Back files (refused_among backs) (f.bytes_at before) (f.bytes_at after)
   pub said : WritesAll (flat_map (back_lines coloring verbose reported) backs) old new
 
--- why a call failed: nothing, or one info line
+-- why a call failed: nothing, or one info line, the first of a text
 abbrev pub SaysReason : Coloring → Stream → Stream → Type 0
-SaysReason coloring old new = (new ≡ old) ⊎ ((text : List ℕ) × WritesText (info_line coloring text) old new)
+SaysReason coloring old new = (new ≡ old) ⊎ ((text : List ℕ) × WritesText (info_line coloring (front_of 10 text)) old new)

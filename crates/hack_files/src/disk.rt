@@ -5,7 +5,7 @@ ghost use Rattle.std.proofs.Common.{inr};
 ghost use Rattle.hack_files.specs.Files.{CountsFailedCall, GrowsAtLeastBy, in_order};
 ghost use Rattle.hack_files.specs.RefusalLaws.{at_least_none, at_least_more, at_least_some};
 
-use crate::fs::{FileFault, Files, Overwrites, count_failure};
+use crate::fs::{FileFault, Files, JournalFiles, count_failure};
 use std::alloc::Global;
 use std::fs::{Metadata, OpenFile, OpenOptions};
 use std::io::{ErrorKind, Read, Write};
@@ -307,14 +307,6 @@ impl<R: rt::Files + AllocGlobal + Drop> Files for Disk<R> {
         count_outcome(exists(&self.rt, path), &mut self.failures, &mut self.reason)
     }
 
-    fn remove(&mut self, path: &str) -> Result<(), FileFault> {
-        count_outcome(
-            remove_file(&self.rt, path),
-            &mut self.failures,
-            &mut self.reason,
-        )
-    }
-
     fn failures(&self) -> u64 {
         self.failures
     }
@@ -324,10 +316,18 @@ impl<R: rt::Files + AllocGlobal + Drop> Files for Disk<R> {
     }
 }
 
-impl<R: rt::Files + AllocGlobal + Drop> Overwrites for Disk<R> {
+impl<R: rt::Files + AllocGlobal + Drop> JournalFiles for Disk<R> {
     fn overwrite(&mut self, path: &str, bytes: &[u8]) -> Result<(), FileFault> {
         count_outcome(
             overwrite_file(&self.rt, path, bytes),
+            &mut self.failures,
+            &mut self.reason,
+        )
+    }
+
+    fn remove(&mut self, path: &str) -> Result<(), FileFault> {
+        count_outcome(
+            remove_file(&self.rt, path),
             &mut self.failures,
             &mut self.reason,
         )

@@ -6,7 +6,7 @@ ghost use Rattle.hack_files.specs.Files.{GrowsAtLeastBy, IsOwnOr};
 ghost use Rattle.hack_files.specs.RefusalLaws.{at_least_none, at_least_more, at_least_some};
 ghost use Rattle.hack_files.specs.RefusalLaws.{own_none, own_more};
 
-use crate::fs::{FileFault, Files, Overwrites, count_failure, counted};
+use crate::fs::{FileFault, Files, JournalFiles, count_failure, counted};
 use std::alloc::Global;
 use std::io;
 use std::io::{ErrorKind, Write};
@@ -150,14 +150,6 @@ impl<F: Files> Files for FailingFiles<F> {
         counted(&mut self.failures, outcome)
     }
 
-    fn remove(&mut self, path: &str) -> Result<(), FileFault> {
-        if self.fails() {
-            return Err(FileFault::Device);
-        }
-        let outcome = self.inner.remove(path);
-        counted(&mut self.failures, outcome)
-    }
-
     fn failures(&self) -> u64 {
         self.failures
     }
@@ -167,7 +159,15 @@ impl<F: Files> Files for FailingFiles<F> {
     }
 }
 
-impl<F: Files> Overwrites for FailingFiles<F> {}
+impl<F: JournalFiles> JournalFiles for FailingFiles<F> {
+    fn remove(&mut self, path: &str) -> Result<(), FileFault> {
+        if self.fails() {
+            return Err(FileFault::Device);
+        }
+        let outcome = self.inner.remove(path);
+        counted(&mut self.failures, outcome)
+    }
+}
 
 /// A writer that passes each write on to another, but for one write, which fails: the first write
 /// is write 1, and with 0 none fails. Writes after the failed one are passed on again.

@@ -8,6 +8,7 @@ ghost use Rattle.hack_base.specs.Counters.{GrowsBy};
 ghost use Rattle.hack_files.specs.Files.{KeepsOthers, KeepsAll, Makes, MakesOrNot, puts, removes};
 ghost use Rattle.hack_files.specs.Files.{Grows, IsUnseenUnlessAbsent, refused_path};
 ghost use Rattle.hack_files.specs.Faults.{IsOfRead, IsOfText, IsOfWrite, IsUnseenUnlessNoText};
+ghost use Rattle.hack_files.specs.Faults.{file_text};
 
 pub use crate::disk::Disk;
 pub use crate::failing::{FailingFiles, FailingWriter};
@@ -97,19 +98,6 @@ pub trait Files {
         ensures untraced { whole → Makes [] (trace self.old) (trace self.new)
             (bytes_at self.old) (bytes_at self.new) };
 
-    /// Removes what is at a path. A path that holds nothing is no error.
-    fn remove(&mut self, path: &str) -> Result<(), FileFault>
-        ensures stays { stays self.old self.new }
-        ensures counted { CountsFailedCall (failed self.old) (failed self.new) result }
-        ensures refused_path { refuses self.old self.new (refused_path result path.now) }
-        ensures unseen_none { unseen self.old self.new [] }
-        ensures removed { OnOk result (tells → bytes_at self.new path.now ≡ None) }
-        ensures others { tells → KeepsOthers path.now (bytes_at self.old) (bytes_at self.new) }
-        ensures traced { OnOk result (whole → Makes (removes path.now ∷ [])
-            (trace self.old) (trace self.new) (bytes_at self.old) (bytes_at self.new)) }
-        ensures refused { OnErr result (whole → MakesOrNot (removes path.now)
-            (trace self.old) (trace self.new) (bytes_at self.old) (bytes_at self.new)) };
-
     ghost stays_none: { (a : Self) → stays a a };
 
     ghost stays_more: { (a b c : Self) → stays a b → stays b c → stays a c };
@@ -141,8 +129,9 @@ pub trait Files {
     }
 }
 
-/// Files for a caller that keeps what is there before it edits it: nothing else may write over bytes.
-pub trait Overwrites: Files {
+/// What a journal needs of the files below it: it writes over bytes that it keeps, and removes its own
+/// files. The files of a call are `Files` alone, so a call can do neither.
+pub trait JournalFiles: Files {
     /// Writes bytes as `write` does. On the disk a write that is interrupted may leave the first of
     /// these bytes, before the rest of those that were there.
     fn overwrite(&mut self, path: &str, bytes: &[u8]) -> Result<(), FileFault>
@@ -163,6 +152,22 @@ pub trait Overwrites: Files {
     {
         self.write(path, bytes)
     }
+
+    /// Removes what is at a path. A path that holds nothing is no error.
+    fn remove(&mut self, path: &str) -> Result<(), FileFault>
+        ensures stays { Self.stays self.old self.new }
+        ensures counted { CountsFailedCall (Self.failed self.old) (Self.failed self.new) result }
+        ensures refused_path { Self.refuses self.old self.new (refused_path result path.now) }
+        ensures unseen_none { Self.unseen self.old self.new [] }
+        ensures removed { OnOk result (Self.tells → Self.bytes_at self.new path.now ≡ None) }
+        ensures others { Self.tells
+            → KeepsOthers path.now (Self.bytes_at self.old) (Self.bytes_at self.new) }
+        ensures traced { OnOk result (Self.whole → Makes (removes path.now ∷ [])
+            (Self.trace self.old) (Self.trace self.new)
+            (Self.bytes_at self.old) (Self.bytes_at self.new)) }
+        ensures refused { OnErr result (Self.whole → MakesOrNot (removes path.now)
+            (Self.trace self.old) (Self.trace self.new)
+            (Self.bytes_at self.old) (Self.bytes_at self.new)) };
 }
 
 /// Why a file can't be read or written. Each value but `Memory` has the path.
@@ -177,6 +182,20 @@ pub enum FsFault {
     Memory,
 }
 
+impl FsFault {
+    /// The text: what stands before the path, the path, and what stands behind it.
+    pub(crate) fn parts(&self) -> (&str, &str, &str)
+        ensures { result.0.now ++ (result.1.now ++ result.2.now) ≡ file_text self.now }
+    {
+        match self {
+            FsFault::Read(path) => ("failed to read from file `", path.as_str(), "`"),
+            FsFault::Write(path) => ("failed to write to file `", path.as_str(), "`"),
+            FsFault::NotText(path) => ("file `", path.as_str(), "` is not UTF-8 text"),
+            FsFault::Memory => ("out of memory", "", ""),
+        }
+    }
+}
+
 /// Written out, so that the texts are proved.
 impl fmt::Display for FsFault {
     ghost use Rattle.hack_files.specs.Faults.{file_text};
@@ -184,12 +203,8 @@ impl fmt::Display for FsFault {
     ghost output = { λ fault. Some (file_text fault) };
 
     fn fmt<W: fmt::Write>(&self, f: &mut fmt::Formatter<W>) -> fmt::Result {
-        match self {
-            FsFault::Read(path) => write!(f, "failed to read from file `{path}`"),
-            FsFault::Write(path) => write!(f, "failed to write to file `{path}`"),
-            FsFault::NotText(path) => write!(f, "file `{path}` is not UTF-8 text"),
-            FsFault::Memory => f.write_str("out of memory"),
-        }
+        let (before, name, after) = self.parts();
+        write!(f, "{before}{name}{after}")
     }
 }
 

@@ -8,7 +8,7 @@ ghost use Rattle.hack_files.specs.Files.{GrowsAtLeastBy, in_order};
 ghost use Rattle.hack_files.specs.RefusalLaws.{at_least_none, at_least_more, at_least_some};
 ghost use Rattle.hack_files.specs.Memory.{held_after, change_of};
 
-use crate::fs::{FileFault, Files, Overwrites, count_failure};
+use crate::fs::{FileFault, Files, JournalFiles, count_failure};
 use std::alloc::{AllocError, Global};
 
 /// A path and the bytes that it holds from now on, or `None` where it was removed.
@@ -160,16 +160,16 @@ impl Files for MemoryFiles {
         Ok(held_at(&self.steps, path).is_some())
     }
 
+    fn failures(&self) -> u64 {
+        self.failures
+    }
+}
+
+impl JournalFiles for MemoryFiles {
     fn remove(&mut self, path: &str) -> Result<(), FileFault> {
         match self.add(path, None) {
             Ok(()) => Ok(()),
             Err(_) => Err(self.starve()),
         }
     }
-
-    fn failures(&self) -> u64 {
-        self.failures
-    }
 }
-
-impl Overwrites for MemoryFiles {}

@@ -1,12 +1,15 @@
 -- What is told of an error, and what can be done about it.
-use Rattle.std.proofs.Common.{◌≡◌, ◌∙◌, ℕ, Bool, List, None, Option, Some, ap, codes, false, if◌then◌else◌, map, refl, string_bytes, subst, sym, true}
+use Rattle.std.proofs.Common.{◌≡◌, ◌∙◌, ℕ, Bool, List, None, Option, Some, ap, codes, false, if◌then◌else◌, map, option_map, refl, string_bytes, subst, sym, true}
 use Rattle.std.specs.Prelude.{◌&&◌, IfSome, nat_eq}
 use Rattle.std.specs.List.{starts_with}
 use Rattle.std.specs.Str.{bytes_eq}
 use Rattle.hack_base.specs.Names.{Name}
 use Rattle.hack_words.specs.declared.cli.env.Env.{Env}
-use Rattle.hack_run.specs.Errors.{choice_of}
-use Rattle.std.specs.Option.{option_to_list}
+use Rattle.hack_files.specs.Faults.{file_text}
+use Rattle.hack_files.specs.declared.fs.FsFault.{FsFault}
+use Rattle.hack_run.specs.Errors.{choice_of, failed_file, is_memory, own_text, text_of}
+use Rattle.hack_run.specs.declared.fault.RunFault.{RunFault}
+use Rattle.std.specs.Option.{option_or, option_to_list}
 use Rattle.hack_base.specs.Streams.{Stream, WritesAll, WritesText}
 use Rattle.hack_term.specs.Lines.{info_line}
 use Rattle.hack_term.specs.declared.term.Coloring.{Coloring}
@@ -42,3 +45,8 @@ unchosen env command cargo rustup = sym (
 pub still_known : (o : Option (List ℕ)) (text bytes : List ℕ) → text ≡ bytes → IfSome o (λ known. bytes ≡ known) → IfSome o (λ known. text ≡ known)
 still_known (Some known) text bytes same is = same ∙ is
 still_known None text bytes same is = tt
+
+-- the text of a file's error
+pub file_told : (fault : RunFault) (failed : FsFault) → Some failed ≡ failed_file fault → IfSome (text_of fault) (λ known. file_text failed ≡ known)
+file_told fault failed is =
+    subst (λ o. IfSome (option_or (option_map file_text o) (if is_memory fault then Some (codes "out of memory") else own_text fault)) (λ known. file_text failed ≡ known)) is refl

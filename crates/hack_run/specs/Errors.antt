@@ -60,20 +60,21 @@ abbrev pub stable_reason : RunFault → Option (List ℕ)
 stable_reason (fault.Plan (plan.Stable text)) = Some (string_bytes text)
 stable_reason other = None
 
--- the text of an error that is the call's own, that of a command or of a file that failed, or why stable's version isn't
--- known; that of any other is written by its type
+-- the text of an error that is the call's own, that of a command that failed, or why stable's version isn't known; that of any
+-- other is written by its type
 abbrev pub own_text : RunFault → Option (List ℕ)
 own_text fault.Unlisted = Some (codes "failed to write the command list")
 own_text fault.Unprinted = Some (codes "failed to write to standard output")
-own_text other = option_or (option_map fault_text (failed_command other)) (option_or (option_map file_text (failed_file other)) (stable_reason other))
+own_text other = option_or (option_map fault_text (failed_command other)) (stable_reason other)
 
--- the same, and what is said where memory was refused
+-- that of a file that failed; or the same, and what is said where memory was refused
 abbrev pub text_of : RunFault → Option (List ℕ)
-text_of fault = if is_memory fault then Some (codes "out of memory") else own_text fault
+text_of fault = option_or (option_map file_text (failed_file fault)) (if is_memory fault then Some (codes "out of memory") else own_text fault)
 
--- a text is that of the error, where it is known, or says that memory was refused for it
+-- a text is that of the error, where it is known; or it says that memory was refused for it, but not where the error is that
+-- of a file, which is named
 abbrev pub IsTextOf : RunFault → List ℕ → Type 0
-IsTextOf fault text = IfSome (text_of fault) (λ known. text ≡ known) ⊎ (text ≡ codes "out of memory")
+IsTextOf fault text = IfSome (text_of fault) (λ known. text ≡ known) ⊎ ((failed_file fault ≡ None) × (text ≡ codes "out of memory"))
 
 -- ---- advice
 
@@ -97,9 +98,13 @@ advice_of env other = option_map (choice_of env) (option_and_then unstarted (fai
 
 -- ---- lines
 
+-- an error's line was said
+abbrev pub SaysError : RunFault → Coloring → Stream → Stream → Type 0
+SaysError fault coloring old new = (text : List ℕ) × IsTextOf fault text × WritesText (error_line coloring text) old new
+
 -- an error's line was said, and before it what the user can do, if anything
 abbrev pub SaysEnd : Result (Unit {0}) RunFault → Env → Coloring → Stream → Stream → Type 0
 SaysEnd (Ok done) env coloring old new = new ≡ old
 SaysEnd (Err fault) env coloring old new =
     (mid : Stream) × WritesAll (map (info_line coloring) (option_to_list (advice_of env fault))) old mid
-    × (text : List ℕ) × IsTextOf fault text × WritesText (error_line coloring text) mid new
+    × SaysError fault coloring mid new

@@ -48,7 +48,7 @@ impl RunFault {
     }
 
     /// The error of a file, where that is the error.
-    fn failed_file(&self) -> Option<&FsFault>
+    pub(crate) fn failed_file(&self) -> Option<&FsFault>
         ensures { option_copied result ≡ failed_file self.now }
     {
         match self {
@@ -91,13 +91,13 @@ impl fmt::Display for RunFault {
     ghost output = { λ fault. text_of fault };
 
     fn fmt<W: fmt::Write>(&self, f: &mut fmt::Formatter<W>) -> fmt::Result {
+        if let Some(fault) = self.failed_file() {
+            return write!(f, "{fault}");
+        }
         if self.is_memory() {
             return f.write_str("out of memory");
         }
         if let Some(fault) = self.failed_command() {
-            return write!(f, "{fault}");
-        }
-        if let Some(fault) = self.failed_file() {
             return write!(f, "{fault}");
         }
         match self {

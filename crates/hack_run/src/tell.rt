@@ -2,11 +2,12 @@
 
 ghost use Rattle.std.specs.Prelude.{◌≡◌, ◌∷◌, [], Err, None, OnErr, OnOk, option_map, true};
 ghost use Rattle.hack_base.specs.Streams.{WritesAll, stream_of};
-ghost use Rattle.hack_run.specs.Errors.{SaysEnd, advice_of, choice_of};
+ghost use Rattle.hack_run.specs.Errors.{SaysEnd, SaysError, advice_of, choice_of};
 ghost use Rattle.hack_term.specs.Lines.{error_line};
 
 use crate::fault::RunFault;
 use hack_base::writes::Sink;
+use hack_files::reason::tell_fault;
 use hack_planner::fault::PlanFault;
 use hack_process::process::ProcessFault;
 use hack_term::term::Term;
@@ -39,6 +40,19 @@ pub(crate) fn tell<E: Sink>(
 {
     if let Some(line) = advice(fault, env) {
         let _ = term.info(line, err);
+    }
+    tell_text(alloc, fault, term, err);
+}
+
+/// Prints the line of an error. That of a file needs no memory, so that its path is named.
+fn tell_text<E: Sink>(alloc: Global, fault: &RunFault, term: &mut Term, err: &mut E)
+    ensures noted { term.new ≡ record term.old { error = true } }
+    ensures shown { SaysError fault.now term.old.coloring
+        (stream_of E.Sink err.old) (stream_of E.Sink err.new) }
+{
+    if let Some(failed) = fault.failed_file() {
+        tell_fault(failed, term, err);
+        return;
     }
     match format!(in alloc; "{fault}") {
         Ok(text) => {

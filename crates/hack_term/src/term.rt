@@ -4,7 +4,7 @@
 //! counts its failures shows that an error comes only with one: where it never fails, lines are
 //! written.
 
-ghost use Rattle.std.specs.Prelude.{◌≡◌, IfSome, IfNone, OnOk, true, false, string_bytes};
+ghost use Rattle.std.specs.Prelude.{◌≡◌, ◌++◌, IfSome, IfNone, OnOk, true, false, string_bytes};
 ghost use Rattle.std.specs.Io.KnownBytes.{Appends};
 ghost use Rattle.hack_base.specs.Writes.{AppendsFront, CountsErrors};
 ghost use Rattle.hack_term.specs.Lines.{coloring_name, warning_label as label_of_warnings};
@@ -14,7 +14,7 @@ ghost use Rattle.hack_term.specs.Lines.{info_label as label_of_info, after_notic
 
 pub use crate::log_group::{LogGroup, LogGroupFault, LogGroupGuard};
 pub use hack_base::notice::{Notice, NoticeKind};
-use hack_base::writes::{Sink, write_line};
+use hack_base::writes::{Sink, write_front, write_line};
 use std::io;
 
 /// Whether the word that begins a line is coloured.
@@ -129,6 +129,28 @@ impl Term {
     {
         self.error = true;
         write_line(error_label(self.coloring), text, out)
+    }
+
+    /// Writes the line of an error that names something between two parts of its text, which so is
+    /// never put together: it needs no memory. The error is recorded even if the write fails.
+    pub fn error_of<W: Sink>(
+        &mut self,
+        before: &str,
+        name: &str,
+        after: &str,
+        out: &mut W,
+    ) -> io::Result<()>
+        ensures noted { self.new ≡ record self.old { error = true } }
+        ensures line { OnOk result (Appends (W.contents out.old) (W.contents out.new)
+            (error_line self.old.coloring (before.now ++ (name.now ++ after.now)))) }
+        ensures front { AppendsFront (W.contents out.old) (W.contents out.new)
+            (error_line self.old.coloring (before.now ++ (name.now ++ after.now))) }
+        ensures counted { CountsErrors (W.failed out.old) (W.failed out.new) result }
+    {
+        self.error = true;
+        write_front(error_label(self.coloring), out)?;
+        write_front(before, out)?;
+        write_line(name, after, out)
     }
 
     /// Writes a notice as its kind requires.

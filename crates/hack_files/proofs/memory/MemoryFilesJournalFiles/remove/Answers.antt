@@ -1,6 +1,6 @@
 use Rattle.hack_files.specs.Memory.{no_contents}
 use Rattle.hack_files.proofs.FilesLemmas.{made, makes_here, makes_others}
-use Rattle.hack_files.proofs.memory.MemoryFilesFiles.remove.Goals as goal
+use Rattle.hack_files.proofs.memory.MemoryFilesJournalFiles.remove.Goals as goal
 
 pub returns-in-Ok-clause-traced : goal.returns-in-Ok-clause-traced
 returns-in-Ok-clause-traced c = λ _. made _ _ _ no_contents c.in-Ok.ensures.ok
