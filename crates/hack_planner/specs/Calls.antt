@@ -71,7 +71,7 @@ have_no_rule cx = has_no_rule cx.metadata.rules
 abbrev pub workspace_notes : ContextRecord → List Note
 workspace_notes cx = if cx.args.package_rules
     then (if have_no_rule cx then warning_note no_rules_text ∷ []
-        else map (λ x. warning_note (workspace_text x)) (unknown_names (member_may_have cx) cx.metadata.rules))
+    else map (λ x. warning_note (workspace_text x)) (unknown_names (member_may_have cx) cx.metadata.rules))
     else []
 
 -- the notices before those on the features of packages: on the choice of packages, and on the workspace's tables

@@ -128,7 +128,7 @@ first_there [] = None
 first_there (x ∷ xs) = option_or x (first_there xs)
 
 -- what is wrong with tables of rules: a field of the workspace's; of the package of this name a field
--- of its own, or this feature, which is excluded and in a group
+-- of its own, or this feature, which is excluded, and in a group or to be included, as no other one is that isn't excluded
 pub data TableFault : Type 0 where
   WorkspaceField : Name → TableFault
   OwnField : Name → Name → TableFault
@@ -151,7 +151,16 @@ abbrev pub first_excluded : List Name → List Name → List (List Name) → Opt
 first_excluded features excluded groups =
     first_there (map (find (is_excluded features excluded)) groups)
 
--- the fault that these rules of a package exclude a feature of a group
+-- the first name of these groups, where each is excluded
+abbrev pub first_of_excluded : List Name → List Name → List (List Name) → Option Name
+first_of_excluded features excluded groups =
+    if list_all (list_all (is_excluded features excluded)) groups then first_excluded features excluded groups else None
+
+-- the first excluded name of a group, else of the features to include, where each of them is excluded, by these rules
+abbrev pub excluded_by : List Name → PackageRulesRecord → Option Name
+excluded_by features r = option_or (first_excluded features r.exclude_features r.group_features)
+    (first_of_excluded features r.exclude_features r.include_features)
+
+-- the fault that these rules of a package exclude a feature that is in a group, or all features that are to be included
 abbrev pub grouped_fault : List Name → Name → PackageRulesRecord → Option TableFault
-grouped_fault features pkg r =
-    option_map (Grouped pkg) (first_excluded features r.exclude_features r.group_features)
+grouped_fault features pkg r = option_map (Grouped pkg) (excluded_by features r)

@@ -53,9 +53,7 @@ pub(crate) fn table_text(alloc: Global, name: &str, pkg: &str) -> Result<String,
 pub(crate) fn workspace_text(alloc: Global, name: &str) -> Result<String, AllocError>
     ensures { IfOk result (λ text. string_bytes text ≡ workspace_text name.now) }
 {
-    format!(in alloc;
-        "feature `{name}` of [workspace.metadata.cargo-hack] not found in any member"
-    )
+    format!(in alloc; "feature `{name}` of [workspace.metadata.cargo-hack] not found in any member")
 }
 
 /// The names, joined by commas.

@@ -15,7 +15,9 @@ ghost use Rattle.hack_planner.specs.Calls.{own_fault_at, package_notes, table_fa
 ghost use Rattle.hack_planner.specs.Calls.{workspace_notes as notes_on_workspace};
 ghost use Rattle.hack_planner.specs.Internal.{SaysFault};
 ghost use Rattle.hack_planner.specs.PackageRules.{rules_in};
-ghost use Rattle.hack_planner.specs.RulesFor.{each_once, first_excluded, first_there, has_no_rule as rule_missing};
+ghost use Rattle.hack_planner.specs.RulesFor.{each_once, excluded_by as excluded_in_rules, first_excluded};
+ghost use Rattle.hack_planner.specs.RulesFor.{first_of_excluded as first_of_all, first_there};
+ghost use Rattle.hack_planner.specs.RulesFor.{has_no_rule as rule_missing};
 ghost use Rattle.hack_planner.specs.RulesFor.{is_excluded as excludes, kept_once, names_of_table};
 ghost use Rattle.hack_planner.specs.RulesFor.{may_have, own_fault, table_notes as notes_on_table};
 ghost use Rattle.hack_planner.specs.Texts.{no_rules_text, table_text as unknown_name};
@@ -157,7 +159,8 @@ fn add_names(names: &mut Vec<String>, more: &[String]) -> Result<(), AllocError>
 }
 
 /// What is said where no table has a rule.
-const NO_RULES: &str = "--package-rules found no rule: neither [workspace.metadata.cargo-hack] nor [package.metadata.cargo-hack] of a member has one";
+const NO_RULES: &str =
+    "--package-rules found no rule: neither [workspace.metadata.cargo-hack] nor [package.metadata.cargo-hack] of a member has one";
 
 /// Under `--package-rules` a warning where neither the workspace's table nor that of a member has a
 /// rule, else one for each name of the workspace's that no member has.
@@ -192,11 +195,7 @@ fn no_rules_note(alloc: Global) -> Result<Vec<Notice>, AllocError>
 }
 
 /// A warning for each of these names that no member has.
-fn unheard_notes(
-    alloc: Global,
-    cx: &Context,
-    names: &[String],
-) -> Result<Vec<Notice>, AllocError>
+fn unheard_notes(alloc: Global, cx: &Context, names: &[String]) -> Result<Vec<Notice>, AllocError>
     ensures { IfOk result (λ notices. map note_of notices.items
         ≡ map (λ x. warning_note (unheard_name x))
         (filter (λ x. not (member_may_have (context_view cx.now) x)) (names_of names.now))) }
@@ -283,7 +282,8 @@ fn is_without_rule(table: &RulesTable) -> bool
 }
 
 /// Refuses the call where a table has a fault: under `--package-rules` the workspace's, or that of
-/// one of these packages, or where a group of such a package has an excluded feature.
+/// one of these packages, or where such a package has an excluded feature in a group, or excludes all
+/// that are to be included.
 pub(crate) fn check_tables(alloc: Global, cx: &Context, ids: &[PackageId]) -> Result<(), PlanFault>
     ensures ok { OnOk result (table_fault (context_view cx.now) (map place_at ids.now) ≡ None) }
     ensures err { IfErr result (λ e. (e ≡ PlanFault.Memory)
@@ -314,7 +314,7 @@ fn check_packages(alloc: Global, cx: &Context, ids: &[PackageId]) -> Result<(), 
     }
 }
 
-/// Refuses a package whose own table has a fault, or of which a group has an excluded feature.
+/// Refuses a package whose own table has a fault, or whose rules exclude so.
 fn check_rules(alloc: Global, cx: &Context, id: PackageId) -> Result<(), PlanFault>
     ensures ok { OnOk result (own_fault_at (context_view cx.now) id.index ≡ None) }
     ensures err { IfErr result (λ e. (e ≡ PlanFault.Memory)
@@ -345,7 +345,7 @@ fn check_own(alloc: Global, pkg: &Package) -> Result<(), PlanFault>
     }
 }
 
-/// Refuses a package of which a group has an excluded feature.
+/// Refuses a package of which a group has an excluded feature, or all features to include are excluded.
 fn check_groups(
     alloc: Global,
     cx: &Context,
@@ -358,14 +358,62 @@ fn check_groups(
         (grouped_at (context_view cx.now) (package_view pkg.now) features.now) e) }
 {
     let rules = PackageRules::of(alloc, cx, pkg, features)?;
-    let given = &cx.args().features;
-    match excluded_in_groups(given, &rules.exclude_features, &rules.group_features) {
+    match excluded_by(&cx.args().features, &rules) {
         Some(feature) => Err(PlanFault::ExcludedInGroup {
             feature: String::from_str(alloc, feature)?,
             name: String::from_str(alloc, pkg.name.as_str())?,
         }),
         None => Ok(()),
     }
+}
+
+/// The first excluded name of a group, else of the features to include, where each of them is excluded.
+/// `given` are on in each run.
+fn excluded_by<'a>(given: &[String], rules: &'a PackageRules) -> Option<&'a str>
+    ensures { option_copied result ≡ excluded_in_rules (names_of given.now) (rules_in rules.now) }
+{
+    let excluded = &rules.exclude_features;
+    match excluded_in_groups(given, excluded, &rules.group_features) {
+        Some(name) => Some(name),
+        None => first_of_excluded(given, excluded, &rules.include_features),
+    }
+}
+
+/// The first name of these groups, where each is excluded.
+fn first_of_excluded<'a>(
+    given: &[String],
+    excluded: &[String],
+    groups: &'a [Feature],
+) -> Option<&'a str>
+    ensures { option_copied result
+        ≡ first_of_all (names_of given.now) (names_of excluded.now) (groups_of groups.now) }
+{
+    if !are_excluded(given, excluded, groups) {
+        return None;
+    }
+    excluded_in_groups(given, excluded, groups)
+}
+
+/// Whether each name of the groups is excluded.
+#[tactic(auto, using(hack_base::proofs::Chains::mapped))]
+fn are_excluded(given: &[String], excluded: &[String], groups: &[Feature]) -> bool
+    ensures { result ≡ list_all (list_all (excludes (names_of given.now) (names_of excluded.now)))
+        (groups_of groups.now) }
+{
+    groups
+        .iter()
+        .all(|group| all_excluded(given, excluded, group.as_group()))
+}
+
+/// Whether each of the names is excluded.
+#[tactic(auto, using(hack_base::proofs::Chains::mapped))]
+fn all_excluded(given: &[String], excluded: &[String], names: &[String]) -> bool
+    ensures { result ≡ list_all (excludes (names_of given.now) (names_of excluded.now))
+        (names_of names.now) }
+{
+    names
+        .iter()
+        .all(|name| is_excluded(given, excluded, name.as_str()))
 }
 
 /// The features of a package, where it is a member of the workspace.
