@@ -44,7 +44,8 @@ HIDDEN = [
             "Run each package also by the rules that its manifest and the workspace's have.",
             "They are the tables [package.metadata.cargo-hack] and [workspace.metadata.cargo-hack], with the keys exclude-features,"
             " mutually-exclusive-features, at-least-one-of, group-features, optional-deps, exclude-no-default-features,"
-            " exclude-all-features, depth and strength, and are added to the rules of the call.",
+            " exclude-all-features, depth and strength, and are added to the rules of the call. Under --each-feature those count that"
+            " exclude, and optional-deps.",
             "This flag can only be used together with --each-feature or --feature-powerset flag.",
         ],
     ),
@@ -57,7 +58,7 @@ HIDDEN = [
             " set, the processors are shared between them, whatever build.jobs says. Where cargo gets --target-dir, or"
             " build.target-dir by --config, they go one by one.",
             "Toolchains, lockfiles and cleaning wait until nothing runs. After a failed run, without --keep-going, what was started"
-            " ahead is ended, and shows nothing.",
+            " ahead is ended, and shows nothing. A signal to cargo-hack alone ends none of them.",
             "This flag may not be used together with --print-command-list or --clean-per-run flag.",
         ],
     ),
@@ -85,7 +86,7 @@ HIDDEN = [
             "So it is taken for granted that what fails still fails with more features: a feature that builds only beside another"
             " isn't found, --each-feature finds it. A run counts as failed whatever the reason, also one that a signal ended. The"
             " features of --features are on in each run, and not named. `no feature at all` means that the package fails without"
-            " features: where it needs some, say so by --at-least-one-of.",
+            " features: where it needs one, give it by --features; where it needs one of some, by --at-least-one-of.",
             "This flag can only be used together with --feature-powerset flag, and not with --depth, --strength, --partition,"
             " --print-command-list, --version-range, --rust-version or --parallel flag.",
         ],
@@ -241,7 +242,7 @@ def cargo_hack_page(found):
             " manifest. Where a call ends early, its guard, a shell, restores them at once. Where that can't act, as after"
             " the machine stopped, the next call does, or `cargo hack --restore`.",
         ])])),
-        ("EXIT STATUS", [roff("0, or 1 after an error. A warning counts as an error where CARGO_HACK_DENY_WARNINGS is set to anything.")]),
+        ("EXIT STATUS", [roff("0, or 1 after an error, as a conflict is one that was found. A warning counts as an error where CARGO_HACK_DENY_WARNINGS is set to anything. A signal ends the call as such: 128 and its number, in a shell.")]),
         ("EXAMPLES", items([
             ("\\fBcargo hack check \\-\\-each\\-feature \\-\\-workspace\\fP", ["Check each feature of each package alone."]),
             ("\\fBcargo hack test \\-\\-feature\\-powerset \\-\\-depth 2\\fP", ["Test each set of at most two features."]),

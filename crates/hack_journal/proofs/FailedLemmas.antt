@@ -20,7 +20,8 @@ use Rattle.hack_journal.specs.declared.recover.RecoverFault.{RecoverFault}
 use Rattle.hack_journal.specs.declared.recover.RecoverFault.TheVariants.{Memory, NotJournal, Changed, Files}
 use Rattle.hack_journal.proofs.CountLemmas.{grows_then}
 
-fails_refused : {F T E : Type 0} (f : Filing F) (path : List ℕ) (r : Result T E) (a b : F) → f.unseen a b [] → f.refuses a b (refused_path r path) → FailsRefusedAt f path a b r
+-- a call that refused at most its path
+pub fails_refused : {F T E : Type 0} (f : Filing F) (path : List ℕ) (r : Result T E) (a b : F) → f.unseen a b [] → f.refuses a b (refused_path r path) → FailsRefusedAt f path a b r
 fails_refused f path (Ok v) a b unseen refused = record { unseen = unseen; refused = refused }
 fails_refused f path (Err e) a b unseen refused = record { unseen = unseen; refused = refused }
 

@@ -1,11 +1,12 @@
 -- The journal keeps what a path held, before the path is changed.
-use Rattle.std.proofs.Common.{◌≡◌, ◌≢◌, ◌<◌, ◌^◌, length, arith, ◌+◌, add-one, inl, inr, ℕ, zero, suc, take, List, [], ◌∷◌, ◌++◌, Option, Some, None, refl, sym, ◌∙◌, subst, ap, append-nil, true, Result, Ok, Err, OnOk, OnErr, false, cond}
+use Rattle.std.proofs.Common.{◌≡◌, ◌≢◌, ◌⊎◌, ◌<◌, ◌^◌, length, arith, ◌+◌, add-one, inl, inr, ℕ, zero, suc, take, List, [], ◌∷◌, ◌++◌, Option, Some, None, refl, sym, ◌∙◌, subst, ap, append-nil, true, Result, Ok, Err, OnOk, OnErr, false, cond}
 use Rattle.std.specs.Prelude.{Bool, not}
 use Rattle.std.specs.List.{filter}
 use Rattle.std.specs.Str.{bytes_eq, IsUtf8}
 use Rattle.std.proofs.Math.Path.{fun_ext}
 use Rattle.std.proofs.lemmas.Slice.Eq.{bytes_eq-Decides}
 use Rattle.std.proofs.lemmas.Bool.{cases_Bool}
+use Rattle.std.proofs.lemmas.Option.{same_Some}
 use Rattle.std.proofs.lemmas.List.{length-append}
 use Rattle.std.proofs.lemmas.List.Elements.{filter-append}
 use Rattle.hack_files.specs.Files.{Change, ComesNext, Contents, KeepsAll, KeepsOthers, Makes, MakesOrNot, Trace, after, after_change, by_kind, in_order, puts}
@@ -181,6 +182,38 @@ put_stays s es p x t u m n out told makes o k =
 
 pub put_or_not_stays : (s : Spot) (es : List Edit) (p : List ℕ) (x : Option (List ℕ)) (t u : Trace) (m n : Contents) → is_of_journal s.journal p ≡ false → SomeEntryHasBytes es p x → MakesOrNot (gives p x) t u m n → Stays s es es t u m n
 put_or_not_stays s es p x t u m n out told makes = elim makes [ inl none ↦ stays_none s es t u m n none | inr made ↦ put_stays s es p x t u m n out told made ]
+
+-- a path is given what it holds
+same_after : (c : Change) (m : Contents) → m c.path ≡ c.bytes → after_change c m ≡ m
+same_after c m held = fun_ext λ q. elim (cases_Bool (bytes_eq c.path q)) [
+  | inl t ↦ rw t (sym held ∙ ap m ((bytes_eq-Decides c.path q).0 t))
+  | inr f ↦ rw f refl
+]
+
+put_same_stays : (s : Spot) (es : List Edit) (p : List ℕ) (x : Option (List ℕ)) (t u : Trace) (m n : Contents) → m p ≡ x → Makes (gives p x ∷ []) t u m n → Stays s es es t u m n
+put_same_stays s es p x t u m n held makes o k =
+    let is : m ≡ n = sym (makes.holds ∙ same_after (gives p x) m held) in
+    (stay_one (IsSafe s o) (gives p x) t u m n makes (safe_of s o es m k) (subst (IsSafe s o) is (safe_of s o es m k)), subst (IsJournaled s o es) is k)
+
+pub same_or_not_stays : (s : Spot) (es : List Edit) (p : List ℕ) (x : Option (List ℕ)) (t u : Trace) (m n : Contents) → m p ≡ x → MakesOrNot (gives p x) t u m n → Stays s es es t u m n
+same_or_not_stays s es p x t u m n held makes = elim makes [ inl none ↦ stays_none s es t u m n none | inr made ↦ put_same_stays s es p x t u m n held made ]
+
+-- the first entry of a path has what this held at first
+first_has : (es : List Edit) (p : List ℕ) (e : Edit) → first_entry_of es p ≡ Some e → SomeEntryHasBytes es p e.held
+first_has [] p e is = absurd (cc)
+first_has (x ∷ es) p e is = elim (cases_Bool (bytes_eq x.path p)) [
+  | inl t ↦ let same : x ≡ e = same_Some x e (sym (ap (λ b. cond b (Some x) (first_entry_of es p)) t) ∙ is) in
+      inl ((bytes_eq-Decides x.path p).0 t, inl (ap (λ (f : Edit). f.held) (sym same)))
+  | inr f ↦ inr (first_has es p e (sym (ap (λ b. cond b (Some x) (first_entry_of es p)) f) ∙ is))
+]
+
+-- a path that held these bytes at first has an entry of them, or holds them now
+pub held_told : (es : List Edit) (p : List ℕ) (now held x : Option (List ℕ)) → IsHeld (first_entry_of es p) now held → held ≡ x → SomeEntryHasBytes es p x ⊎ (now ≡ x)
+held_told es p now held x is same = go (first_entry_of es p) refl is
+  where
+    go : (o : Option Edit) → first_entry_of es p ≡ o → IsHeld o now held → SomeEntryHasBytes es p x ⊎ (now ≡ x)
+    go None none h = inr (h ∙ same)
+    go (Some e) some h = inl (subst (SomeEntryHasBytes es p) (h ∙ same) (first_has es p e some))
 
 -- ---- the changes besides the journal's, and the paths without it
 

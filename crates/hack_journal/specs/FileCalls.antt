@@ -1,5 +1,5 @@
 -- What calls of files keep.
-use Rattle.std.specs.Prelude.{◌≡◌, [], ◌∷◌, ℕ, List, Option, IsTrue, Result, OnOk, OnErr, string_bytes}
+use Rattle.std.specs.Prelude.{◌≡◌, [], ◌∷◌, ℕ, List, Option, Some, IsTrue, Result, OnOk, OnErr, string_bytes}
 use Rattle.hack_files.specs.Files.{CountsFailedCall, KeepsAll, KeepsOthers, Makes, MakesOrNot, refused_path}
 use Rattle.hack_files.specs.declared.fs.Files.{Ghosts as Filing}
 use Rattle.hack_journal.specs.FailedCalls.{FailsRefusedAt}
@@ -39,9 +39,9 @@ pub record GoesToOne {A B : Type 0} (path : List ℕ) (old new : Apart A B) : Ty
   pub lockfiles : ¬ IsTrue (is_lockfile path) → new.lockfiles ≡ old.lockfiles
 
 -- a call puts these bytes at this path in those of two files that it goes to, and in no other way
-pub record PutsByKind {A B T E : Type 0} (a : Filing A) (b : Filing B) (path : List ℕ) (bytes : Option (List ℕ)) (old new : Apart A B) (result : Result T E) : Type 0 where
-  pub files : ¬ IsTrue (is_lockfile path) → Puts a path bytes old.files new.files result
-  pub lockfiles : IsTrue (is_lockfile path) → Puts b path bytes old.lockfiles new.lockfiles result
+pub record PutsByKind {A B T E : Type 0} (a : Filing A) (b : Filing B) (path bytes : List ℕ) (old new : Apart A B) (result : Result T E) : Type 0 where
+  pub files : ¬ IsTrue (is_lockfile path) → Puts a path (Some bytes) old.files new.files result
+  pub lockfiles : IsTrue (is_lockfile path) → Puts b path (Some bytes) old.lockfiles new.lockfiles result
 
 -- where the journal of these files lies
 abbrev pub spot_in : {F U : Type 0} → Journaled F U → Spot

@@ -29,10 +29,10 @@ abbrev pub held_first : Option Edit → Option (List ℕ) → Option (List ℕ)
 held_first None now = now
 held_first (Some e) now = e.held
 
--- giving a path these bytes, or removing it, is no edit of a manifest that was there at first
-abbrev pub IsOther : {F : Type 0} → Filing F → Noted → List ℕ → Option (List ℕ) → F → Type 0
+-- a write of these bytes is no edit of a manifest that was there at first
+abbrev pub IsOther : {F : Type 0} → Filing F → Noted → List ℕ → List ℕ → F → Type 0
 IsOther f noted path bytes old =
-    f.tells → is_edit_of_manifest (record { path = path; held = held_first (first_entry_of noted.entries path) (f.bytes_at old path); wrote = bytes }) ≡ false
+    f.tells → is_edit_of_manifest (record { path = path; held = held_first (first_entry_of noted.entries path) (f.bytes_at old path); wrote = Some bytes }) ≡ false
 
 -- the folder so many steps above this one
 abbrev pub folder_above : ℕ → List ℕ → List ℕ
@@ -65,22 +65,22 @@ CannotAppend f folder noted path old new =
     IsWayless folder path ⊎ (CannotLookAhead f noted old new ⊎ WriteFailed f (file_at noted.journal (length noted.entries)) old new)
 
 -- why what a path holds can't be kept
-abbrev pub CannotKeep : {F : Type 0} → Filing F → List ℕ → Noted → List ℕ → Option (List ℕ) → F → F → Type 0
+abbrev pub CannotKeep : {F : Type 0} → Filing F → List ℕ → Noted → List ℕ → List ℕ → F → F → Type 0
 CannotKeep f folder noted path bytes old new =
     (LookFailed f path old new ⊎ IsOther f noted path bytes old) ⊎ CannotAppend f folder noted path old new
 
 -- why a call is refused before the files below are asked: the path is the journal's own, or what it holds can't be kept
-abbrev pub IsOwnRefusal : {F : Type 0} → Filing F → List ℕ → Noted → List ℕ → Option (List ℕ) → F → F → Type 0
+abbrev pub IsOwnRefusal : {F : Type 0} → Filing F → List ℕ → Noted → List ℕ → List ℕ → F → F → Type 0
 IsOwnRefusal f folder noted path bytes old new =
     (is_of_journal noted.journal path ≡ true) ⊎ CannotKeep f folder noted path bytes old new
 
--- why a path can't be given these bytes, or removed: it is refused so, or by the files below
-abbrev pub CannotChange : {F : Type 0} → Filing F → List ℕ → Noted → List ℕ → Option (List ℕ) → F → F → Type 0
+-- why a path can't be given these bytes: it is refused so, or by the files below
+abbrev pub CannotChange : {F : Type 0} → Filing F → List ℕ → Noted → List ℕ → List ℕ → F → F → Type 0
 CannotChange f folder noted path bytes old new =
     IsOwnRefusal f folder noted path bytes old new ⊎ WriteFailed f path old new
 
--- a write or removal fails only so
-abbrev pub FailsToChange : {F T : Type 0} → Filing F → List ℕ → Noted → List ℕ → Option (List ℕ) → F → F → Result T FileFault → Type 0
+-- a write fails only so
+abbrev pub FailsToChange : {F T : Type 0} → Filing F → List ℕ → Noted → List ℕ → List ℕ → F → F → Result T FileFault → Type 0
 FailsToChange f folder noted path bytes old new result = FailsOf f (CannotChange f folder noted path bytes old new) old new result
 
 -- a call failed, for memory or for this cause
@@ -99,6 +99,6 @@ ChangesNoFile f journal old new =
 
 -- nobody was told that something couldn't be kept; or it failed for that, and its own path was told, which
 -- the files below didn't refuse; but for the journal, they changed nothing
-abbrev pub TellsItsOwn : {F U T : Type 0} → Filing F → Noting U → List ℕ → Noted → List ℕ → Option (List ℕ) → F → F → U → U → Result T FileFault → Type 0
+abbrev pub TellsItsOwn : {F U T : Type 0} → Filing F → Noting U → List ℕ → Noted → List ℕ → List ℕ → F → F → U → U → Result T FileFault → Type 0
 TellsItsOwn f u folder noted path bytes old new was now result =
     (now ≡ was) ⊎ (FailsFor (IsOwnRefusal f folder noted path bytes old new) result × u.misses was now path × RefusesOthers f path old new × ChangesNoFile f noted.journal old new)

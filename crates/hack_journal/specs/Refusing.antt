@@ -12,7 +12,7 @@ pub record IsRefused {F : Type 0} (f : Filing F) (path : List ℕ) : Type 0 wher
   pub after : F
   pub refused : f.refuses before after (path ∷ [])
 
--- it was told that a write or removal of this path couldn't be kept
+-- it was told that a write of this path couldn't be kept
 pub record IsUnkept {U : Type 0} (u : Noting U) (path : List ℕ) : Type 0 where
   pub before : U
   pub after : U
@@ -28,7 +28,7 @@ pub record IsUnseen {F : Type 0} (f : Filing F) (path : List ℕ) : Type 0 where
 abbrev pub IsUnseenOrUntold : {F : Type 0} → Type 0 → Filing F → List ℕ → Type 0
 IsUnseenOrUntold tells f path = IsUnseen f path ⊎ ¬ tells
 
--- a write or removal of this path was refused by the files below, or couldn't be kept
+-- a write of this path was refused by the files below, or couldn't be kept
 abbrev pub IsRefusedOrUnkept : {F U : Type 0} → Filing F → Noting U → List ℕ → Type 0
 IsRefusedOrUnkept f u path = IsRefused f path ⊎ IsUnkept u path
 

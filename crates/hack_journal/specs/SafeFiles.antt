@@ -27,6 +27,10 @@ abbrev pub first_entry_of : List Edit → List ℕ → Option Edit
 first_entry_of [] path = None
 first_entry_of (e ∷ es) path = cond (bytes_eq e.path path) (Some e) (first_entry_of es path)
 
+-- the path has no entry, and holds these bytes
+abbrev pub HoldsUnkept : List Edit → Contents → List ℕ → List ℕ → Type 0
+HoldsUnkept es now path bytes = (first_entry_of es path ≡ None) × (now path ≡ Some bytes)
+
 -- each entry's path holds what it held at first
 abbrev pub AreBack : List Edit → Contents → Type 0
 AreBack [] now = Unit {0}

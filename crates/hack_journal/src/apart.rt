@@ -3,7 +3,7 @@
 //! Cargo itself changes `Cargo.lock` during a call, so a journal can't say what it held. Where the
 //! other files have a journal, writes of lockfiles don't go through it.
 
-ghost use Rattle.std.specs.Prelude.{◌≡◌, ◌↔◌, None, Some, IfOk, IsTrue, IsSome};
+ghost use Rattle.std.specs.Prelude.{◌≡◌, ◌↔◌, Some, IfOk, IsTrue, IsSome};
 ghost use Rattle.hack_files.specs.Files.{by_kind};
 ghost use Rattle.hack_journal.specs.LockfilesApart.{is_lockfile, apart, KeepsLockfiles};
 ghost use Rattle.hack_journal.specs.LockfilesApart.{KeepsOtherFiles};
@@ -135,8 +135,7 @@ impl<A: Files, B: Files> Files for Apart<A, B> {
     fn write(&mut self, path: &str, bytes: &[u8]) -> Result<(), FileFault>
         ensures puts { Puts ⟦<Apart<A, B> as Files>⟧ path.now (Some bytes.now)
             self.old self.new result }
-        ensures below { PutsByKind A.Files B.Files path.now (Some bytes.now)
-            self.old self.new result }
+        ensures below { PutsByKind A.Files B.Files path.now bytes.now self.old self.new result }
         ensures one { GoesToOne path.now self.old self.new }
     {
         let outcome = if is_lockfile(path) {
@@ -163,21 +162,6 @@ impl<A: Files, B: Files> Files for Apart<A, B> {
         } else {
             self.is_at_lockfiles = false;
             self.files.exists(path)
-        };
-        counted(&mut self.failures, outcome)
-    }
-
-    fn remove(&mut self, path: &str) -> Result<(), FileFault>
-        ensures puts { Puts ⟦<Apart<A, B> as Files>⟧ path.now None self.old self.new result }
-        ensures below { PutsByKind A.Files B.Files path.now None self.old self.new result }
-        ensures one { GoesToOne path.now self.old self.new }
-    {
-        let outcome = if is_lockfile(path) {
-            self.is_at_lockfiles = true;
-            self.lockfiles.remove(path)
-        } else {
-            self.is_at_lockfiles = false;
-            self.files.remove(path)
         };
         counted(&mut self.failures, outcome)
     }

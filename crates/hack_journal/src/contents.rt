@@ -11,7 +11,7 @@ ghost use Rattle.hack_journal.specs.SafeFiles.{AreBack};
 
 use crate::entries::same;
 use crate::journal::Entry;
-use hack_files::fs::{FileFault, Files, Overwrites};
+use hack_files::fs::{FileFault, Files, JournalFiles};
 use std::alloc::Global;
 
 /// Returns what a path holds, or `None` where nothing is there.
@@ -38,18 +38,7 @@ pub fn look<F: Files>(
 }
 
 /// Puts these bytes at a path, or removes what is there.
-pub fn put<F: Files>(files: &mut F, path: &str, bytes: Option<&[u8]>) -> Result<(), FileFault>
-    ensures { Puts F.Files path.now (option_map (λ bytes. bytes.now) bytes.entry)
-        files.old files.new result }
-{
-    match bytes {
-        Some(bytes) => files.write(path, bytes),
-        None => files.remove(path),
-    }
-}
-
-/// Puts these bytes over those at a path, which are kept, or removes what is there.
-pub fn put_over<F: Overwrites>(
+pub fn put<F: JournalFiles>(
     files: &mut F,
     path: &str,
     bytes: Option<&[u8]>,
@@ -58,7 +47,7 @@ pub fn put_over<F: Overwrites>(
         files.old files.new result }
 {
     match bytes {
-        Some(bytes) => files.overwrite(path, bytes),
+        Some(bytes) => files.write(path, bytes),
         None => files.remove(path),
     }
 }

@@ -3,32 +3,31 @@
 //! Wherever the program ends, each path holds what it held at first, or the journal has it, and
 //! [`crate::recover::recover`] puts it back.
 //!
-//! A write or removal is refused by the files below, or because the journal can't keep what it
-//! replaces: then an [`Unkept`] is told of it. It keeps edits of manifests alone, since the next
-//! call restores nothing for a journal that names anything else.
+//! A write is refused by the files below, or because the journal can't keep what it replaces: then an
+//! [`Unkept`] is told of it. It keeps edits of manifests alone, since the next call restores nothing
+//! for a journal that names anything else.
 
 ghost use Rattle.std.specs.Prelude.{◌≡◌, ◌<◌, ◌+◌, [], ◌∷◌, ℕ, None, Some, length, Ok, false, true};
 ghost use Rattle.std.specs.Prelude.{IfOk, OnOk, OnErr, IsTrue, IsSome, ◌↔◌, string_bytes};
-ghost use Rattle.std.specs.Option.{option_map};
 ghost use Rattle.hack_files.specs.Files.{Contents, CountsFailedCall, KeepsOthers, KeepsAll};
-ghost use Rattle.hack_files.specs.Files.{Makes, MakesOrNot, refused_path};
+ghost use Rattle.hack_files.specs.Files.{Makes, MakesOrNot, puts, refused_path};
 ghost use Rattle.hack_journal.specs.Keeping.{FailsToChange, TellsItsOwn};
 ghost use Rattle.hack_journal.specs.Rows.{spot_of, file_at, is_of_journal, KeepsBeside, RemovesOwn};
-ghost use Rattle.hack_journal.specs.SafeFiles.{SomeEntryHasBytes, AreBack, gives};
+ghost use Rattle.hack_journal.specs.SafeFiles.{HoldsUnkept, SomeEntryHasBytes, AreBack};
 ghost use Rattle.hack_journal.specs.SafeFiles.{IsJournaled, Stays, trace_besides, without};
 ghost use Rattle.hack_journal.specs.Internal.{ShortensRow};
 ghost use Rattle.hack_journal.specs.Refusing.{IsCounted, IsRefusedOrUnkept};
 
-use crate::contents::{are_back, put_over};
+use crate::contents::are_back;
 use crate::notes::Notes;
 use crate::place::JournalPlace;
 use crate::unkept::{Refusal, Unkept};
-use hack_files::fs::{FileFault, Files, Overwrites, count_failure, counted};
+use hack_files::fs::{FileFault, Files, JournalFiles, count_failure, counted};
 use std::alloc::Global;
 use std::io;
 
 /// Files over other files, with a journal. The journal is none of the files: paths that begin with
-/// its own hold nothing, and can't be read, written or removed.
+/// its own hold nothing, and can't be read or written.
 ///
 /// Each edit adds a file to the journal's row, so its cost doesn't grow with the edits before it.
 #[derive(Drop)]
@@ -46,7 +45,7 @@ impl<F: Files, U: Unkept> Journaled<F, U> {
 
     /// Files over these, of which nothing is kept yet, with no failed call counted. The journal is
     /// written to this place before the first change; one that is there already would be lost, so
-    /// call `recover` first. `unkept` is told of each write and removal that can't be kept.
+    /// call `recover` first. `unkept` is told of each write that can't be kept.
     pub fn new(alloc: Global, files: F, place: JournalPlace, unkept: U) -> Self
         ensures place { spot_in result ≡ spot_of place }
         ensures files { result.files ≡ files }
@@ -75,13 +74,14 @@ impl<F: Files, U: Unkept> Journaled<F, U> {
     }
 }
 
-impl<F: Overwrites, U: Unkept> Journaled<F, U> {
-    ghost use Rattle.hack_journal.specs.FileCalls.{StaysJournaled};
+impl<F: JournalFiles, U: Unkept> Journaled<F, U> {
+    ghost use Rattle.hack_journal.specs.FailedCalls.{FailsRemoval, FailsToEnd};
+    ghost use Rattle.hack_journal.specs.FileCalls.{StaysJournaled, spot_in};
 
-    /// Keeps what the path holds, and then gives it these bytes, or removes what is there. What an
-    /// entry has already needs no keeping. The bytes may be written over those that are there: where
-    /// that is cut, `recover` knows what it left by the entries of the path.
-    fn change(&mut self, path: &str, bytes: Option<&[u8]>) -> Result<(), FileFault>
+    /// Keeps what the path holds, and then writes these bytes over those that are there. What an entry
+    /// has already needs no keeping. Where the write is cut, `recover` knows what it left by the
+    /// entries of the path.
+    fn change(&mut self, path: &str, bytes: &[u8]) -> Result<(), FileFault>
         ensures handed { F.stays self.old.files self.new.files }
         ensures journal { self.new.notes.journal ≡ self.old.notes.journal }
         ensures rest { self.new ≡ record self.old {
@@ -93,52 +93,44 @@ impl<F: Overwrites, U: Unkept> Journaled<F, U> {
             (U.told self.old.unkept) (U.told self.new.unkept) }
         ensures why { OnErr result (IsRefusedOrUnkept F.Files U.Unkept path.now) }
         ensures unkept { TellsItsOwn F.Files U.Unkept (string_bytes self.old.folder)
-            self.old.notes path.now (option_map (λ bytes. bytes.now) bytes.entry)
-            self.old.files self.new.files self.old.unkept self.new.unkept result }
-        ensures sure { SomeEntryHasBytes self.old.notes.entries path.now
-            (option_map (λ bytes. bytes.now) bytes.entry) →
+            self.old.notes path.now bytes.now self.old.files self.new.files
+            self.old.unkept self.new.unkept result }
+        ensures sure { SomeEntryHasBytes self.old.notes.entries path.now (Some bytes.now) →
             is_of_journal self.old.notes.journal path.now ≡ false →
             F.refuses self.old.files self.new.files (refused_path result path.now) }
         ensures put { OnOk result (F.tells →
-            without self.old.notes.journal (F.bytes_at self.new.files) path.now ≡
-            option_map (λ bytes. bytes.now) bytes.entry) }
+            without self.old.notes.journal (F.bytes_at self.new.files) path.now ≡ Some bytes.now) }
         ensures others { F.tells → KeepsOthers path.now
             (without self.old.notes.journal (F.bytes_at self.old.files))
             (without self.old.notes.journal (F.bytes_at self.new.files)) }
-        ensures traced { OnOk result (F.whole →
-            Makes (gives path.now (option_map (λ bytes. bytes.now) bytes.entry) ∷ [])
+        ensures traced { OnOk result (F.whole → Makes (puts path.now bytes.now ∷ [])
             (trace_besides self.old.notes.journal (F.trace self.old.files))
             (trace_besides self.old.notes.journal (F.trace self.new.files))
             (without self.old.notes.journal (F.bytes_at self.old.files))
             (without self.old.notes.journal (F.bytes_at self.new.files))) }
-        ensures refused { OnErr result (F.whole →
-            MakesOrNot (gives path.now (option_map (λ bytes. bytes.now) bytes.entry))
+        ensures refused { OnErr result (F.whole → MakesOrNot (puts path.now bytes.now)
             (trace_besides self.old.notes.journal (F.trace self.old.files))
             (trace_besides self.old.notes.journal (F.trace self.new.files))
             (without self.old.notes.journal (F.bytes_at self.old.files))
             (without self.old.notes.journal (F.bytes_at self.new.files))) }
         ensures stays { StaysJournaled F.Files self.old self.new }
         ensures cause { FailsToChange F.Files (string_bytes self.old.folder)
-            self.old.notes path.now (option_map (λ bytes. bytes.now) bytes.entry)
-            self.old.files self.new.files result }
+            self.old.notes path.now bytes.now self.old.files self.new.files result }
+        ensures idle { F.tells → HoldsUnkept self.old.notes.entries (F.bytes_at self.old.files)
+            path.now bytes.now → self.new.notes ≡ self.old.notes }
     {
         if self.notes.is_of_journal(path) {
             self.unkept.note(Refusal::of(path));
             return Err(FileFault::Device);
         }
         match self.keep(path, bytes) {
-            Ok(()) => put_over(&mut self.files, path, bytes),
+            Ok(()) => self.files.overwrite(path, bytes),
             Err(fault) => {
                 self.unkept.note(Refusal::of(path));
                 Err(fault)
             }
         }
     }
-}
-
-impl<F: Files, U: Unkept> Journaled<F, U> {
-    ghost use Rattle.hack_journal.specs.FailedCalls.{FailsRemoval, FailsToEnd};
-    ghost use Rattle.hack_journal.specs.FileCalls.{StaysJournaled, spot_in};
 
     /// Removes the row, from its last file on. The file that would come next may be there too, after
     /// a write that failed.
@@ -215,7 +207,7 @@ impl<F: Files, U: Unkept> Journaled<F, U> {
     }
 }
 
-impl<F: Overwrites, U: Unkept> Files for Journaled<F, U> {
+impl<F: JournalFiles, U: Unkept> Files for Journaled<F, U> {
     ghost use Rattle.std.proofs.Common.{refl, ◌∙◌};
     ghost use Rattle.hack_files.specs.TraceLaws.{makes_none};
     ghost use Rattle.hack_journal.specs.SafeLaws.{stays_none, stays_join};
@@ -313,7 +305,7 @@ impl<F: Overwrites, U: Unkept> Files for Journaled<F, U> {
             self.old self.new result }
         // It tells of what it refuses before it asks the files below, and of nothing else.
         ensures unkept { TellsItsOwn F.Files U.Unkept (string_bytes self.old.folder)
-            self.old.notes path.now (Some bytes.now) self.old.files self.new.files
+            self.old.notes path.now bytes.now self.old.files self.new.files
             self.old.unkept self.new.unkept result }
         // What an entry has already nothing but the files below can refuse.
         ensures sure { SomeEntryHasBytes self.old.notes.entries path.now (Some bytes.now) →
@@ -321,9 +313,12 @@ impl<F: Overwrites, U: Unkept> Files for Journaled<F, U> {
             F.refuses self.old.files self.new.files (refused_path result path.now) }
         // It fails for memory, or for one of these causes.
         ensures cause { FailsToChange F.Files (string_bytes self.old.folder) self.old.notes
-            path.now (Some bytes.now) self.old.files self.new.files result }
+            path.now bytes.now self.old.files self.new.files result }
+        // What the path holds already needs no entry.
+        ensures idle { F.tells → HoldsUnkept self.old.notes.entries (F.bytes_at self.old.files)
+            path.now bytes.now → self.new.notes ≡ self.old.notes }
     {
-        let outcome = self.change(path, Some(bytes));
+        let outcome = self.change(path, bytes);
         counted(&mut self.failures, outcome)
     }
 
@@ -343,24 +338,6 @@ impl<F: Overwrites, U: Unkept> Files for Journaled<F, U> {
             return Ok(false);
         }
         let outcome = self.files.exists(path);
-        counted(&mut self.failures, outcome)
-    }
-
-    fn remove(&mut self, path: &str) -> Result<(), FileFault>
-        ensures puts { Puts ⟦<Journaled<F, U> as Files>⟧ path.now None self.old self.new result }
-        // It tells of what it refuses before it asks the files below, and of nothing else.
-        ensures unkept { TellsItsOwn F.Files U.Unkept (string_bytes self.old.folder)
-            self.old.notes path.now None self.old.files self.new.files
-            self.old.unkept self.new.unkept result }
-        // What an entry has already nothing but the files below can refuse.
-        ensures sure { SomeEntryHasBytes self.old.notes.entries path.now None →
-            is_of_journal self.old.notes.journal path.now ≡ false →
-            F.refuses self.old.files self.new.files (refused_path result path.now) }
-        // It fails for memory, or for one of these causes.
-        ensures cause { FailsToChange F.Files (string_bytes self.old.folder) self.old.notes
-            path.now None self.old.files self.new.files result }
-    {
-        let outcome = self.change(path, None);
         counted(&mut self.failures, outcome)
     }
 

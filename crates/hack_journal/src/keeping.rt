@@ -10,12 +10,13 @@ ghost use Rattle.hack_journal.specs.Journal.{edit_of};
 ghost use Rattle.hack_journal.specs.Keeping.{CannotAppend, CannotKeep, CannotLookAhead, FailsOf};
 ghost use Rattle.hack_journal.specs.Keeping.{IsOther};
 ghost use Rattle.hack_journal.specs.Rows.{file_at, is_of_journal};
-ghost use Rattle.hack_journal.specs.SafeFiles.{SomeEntryHasBytes, first_entry_of, without};
+ghost use Rattle.hack_journal.specs.SafeFiles.{HoldsUnkept, SomeEntryHasBytes, first_entry_of};
+ghost use Rattle.hack_journal.specs.SafeFiles.{without};
 ghost use Rattle.hack_journal.specs.Internal.{Hidden, IsHeld, IsNotable, RefusesNextAtMost};
 ghost use Rattle.hack_journal.specs.Strangers.{is_edit_of_manifest};
 
 use crate::contents::look;
-use crate::entries::{copy, first, tells};
+use crate::entries::{copy, first, same, tells};
 use crate::journal::{Entry, note_of};
 use crate::journaled::Journaled;
 use crate::strangers::edit_of_manifest;
@@ -51,16 +52,15 @@ impl<F: Files, U: Unkept> Journaled<F, U> {
         }
     }
 
-    /// Makes the entry of a path that is to hold these bytes, or be removed. Unless it is of a
-    /// manifest that was there and is to hold another text, it is refused.
-    fn entry(&mut self, path: &str, bytes: Option<&[u8]>) -> Result<Entry, FileFault>
+    /// Makes the entry of a path that is to hold these bytes. Unless it is of a manifest that was
+    /// there, it is refused.
+    fn entry(&mut self, path: &str, bytes: &[u8]) -> Result<Entry, FileFault>
         ensures handed { F.stays self.old.files self.new.files }
         ensures below { Grows (F.failed self.old.files) (F.failed self.new.files) }
         ensures refused_none { F.refuses self.old.files self.new.files [] }
         ensures rest { self.new ≡ record self.old { files = self.new.files } }
         ensures path { IfOk result (λ entry. (edit_of entry).path ≡ path.now) }
-        ensures wrote { IfOk result (λ entry.
-            (edit_of entry).wrote ≡ option_map (λ bytes. bytes.now) bytes.entry) }
+        ensures wrote { IfOk result (λ entry. (edit_of entry).wrote ≡ Some bytes.now) }
         ensures held { IfOk result (λ entry. F.tells →
             IsHeld (first_entry_of self.old.notes.entries path.now)
             (F.bytes_at self.old.files path.now) (edit_of entry).held) }
@@ -70,8 +70,7 @@ impl<F: Files, U: Unkept> Journaled<F, U> {
         ensures untraced { F.whole → Makes [] (F.trace self.old.files) (F.trace self.new.files)
             (F.bytes_at self.old.files) (F.bytes_at self.new.files) }
         ensures why { FailsOf F.Files (LookFailed F.Files path.now self.old.files self.new.files
-            ⊎ IsOther F.Files self.old.notes path.now
-            (option_map (λ bytes. bytes.now) bytes.entry) self.old.files)
+            ⊎ IsOther F.Files self.old.notes path.now bytes.now self.old.files)
             self.old.files self.new.files result }
     {
         let held = self.held_at_first(path)?;
@@ -142,9 +141,10 @@ impl<F: Files, U: Unkept> Journaled<F, U> {
         }
     }
 
-    /// Keeps what the path holds before it is to hold these bytes, or be removed: adds an entry to
-    /// the journal, unless one of the path has these bytes already.
-    pub(crate) fn keep(&mut self, path: &str, bytes: Option<&[u8]>) -> Result<(), FileFault>
+    /// Keeps what the path holds before it is to hold these bytes: adds an entry to the journal, unless
+    /// one of the path has these bytes already, or the path has held them all along. Then a call leaves
+    /// nothing there that somebody else's change could be taken for.
+    pub(crate) fn keep(&mut self, path: &str, bytes: &[u8]) -> Result<(), FileFault>
         ensures handed { F.stays self.old.files self.new.files }
         ensures below { Grows (F.failed self.old.files) (F.failed self.new.files) }
         ensures refused { RefusesNextAtMost F.Files self.old.notes
@@ -152,11 +152,12 @@ impl<F: Files, U: Unkept> Journaled<F, U> {
         ensures journal { self.new.notes.journal ≡ self.old.notes.journal }
         ensures rest { self.new ≡
             record self.old { files = self.new.files; notes = self.new.notes } }
-        ensures told { OnOk result (SomeEntryHasBytes self.new.notes.entries path.now
-            (option_map (λ bytes. bytes.now) bytes.entry)) }
-        ensures sure { SomeEntryHasBytes self.old.notes.entries path.now
-            (option_map (λ bytes. bytes.now) bytes.entry) →
+        ensures told { OnOk result (F.tells → SomeEntryHasBytes self.new.notes.entries path.now
+            (Some bytes.now) ⊎ (F.bytes_at self.new.files path.now ≡ Some bytes.now)) }
+        ensures sure { SomeEntryHasBytes self.old.notes.entries path.now (Some bytes.now) →
             (result ≡ Ok tt) × (self.new ≡ self.old) }
+        ensures idle { F.tells → HoldsUnkept self.old.notes.entries (F.bytes_at self.old.files)
+            path.now bytes.now → self.new.notes ≡ self.old.notes }
         ensures others { F.tells → KeepsAll
             (without self.old.notes.journal (F.bytes_at self.old.files))
             (without self.old.notes.journal (F.bytes_at self.new.files)) }
@@ -166,13 +167,16 @@ impl<F: Files, U: Unkept> Journaled<F, U> {
         ensures stays { is_of_journal self.old.notes.journal path.now ≡ false →
             StaysJournaled F.Files self.old self.new }
         ensures why { FailsOf F.Files (CannotKeep F.Files (string_bytes self.old.folder)
-            self.old.notes path.now (option_map (λ bytes. bytes.now) bytes.entry)
-            self.old.files self.new.files) self.old.files self.new.files result }
+            self.old.notes path.now bytes.now self.old.files self.new.files)
+            self.old.files self.new.files result }
     {
-        if tells(self.notes.entries(), path, bytes) {
+        if tells(self.notes.entries(), path, Some(bytes)) {
             return Ok(());
         }
         let entry = self.entry(path, bytes)?;
+        if same(entry.held.as_deref(), Some(bytes)) {
+            return Ok(());
+        }
         self.append(entry)
     }
 }

@@ -24,7 +24,7 @@ use crate::entries::same;
 use crate::journal::Entry;
 use crate::place::{JournalPlace, file_of};
 use crate::rows::{Row, read_fault, row_at};
-use hack_files::fs::{FileFault, Files, FsFault};
+use hack_files::fs::{FileFault, Files, FsFault, JournalFiles};
 use std::alloc::{AllocError, AllocFailed, Global};
 use std::error::Error;
 use std::fmt;
@@ -179,7 +179,7 @@ fn check_all<F: Files>(
 /// last entry is written also where its path holds that already: its edit may have been interrupted,
 /// and a write on the disk removes what an interrupted one left beside the path.
 #[tactic(auto, using(crate::proofs::FailedLemmas::call_steps))]
-fn put_back<F: Files>(
+fn put_back<F: JournalFiles>(
     alloc: Global,
     files: &mut F,
     entry: &Entry,
@@ -220,7 +220,7 @@ fn put_back<F: Files>(
 /// Puts back what these entries keep, in order. The paths that held something else are added to
 /// these.
 #[tactic(auto, using(crate::proofs::FailedLemmas::call_steps))]
-fn put_all_back<F: Files>(
+fn put_all_back<F: JournalFiles>(
     alloc: Global,
     files: &mut F,
     entries: &[Entry],
@@ -255,7 +255,7 @@ fn put_all_back<F: Files>(
 
 /// Removes the first files of the row, so many of them, from the last one on.
 #[tactic(auto, using(crate::proofs::FailedLemmas::call_steps))]
-fn remove_files<F: Files>(
+fn remove_files<F: JournalFiles>(
     alloc: Global,
     files: &mut F,
     journal: &str,
@@ -287,7 +287,7 @@ fn remove_files<F: Files>(
 /// Puts back what the entries of a journal keep, and then removes it. Returns the paths that held
 /// something else.
 #[tactic(auto, using(crate::proofs::FailedLemmas::call_steps))]
-fn take_back<F: Files>(
+fn take_back<F: JournalFiles>(
     alloc: Global,
     files: &mut F,
     place: &JournalPlace,
@@ -331,7 +331,7 @@ fn take_back<F: Files>(
 /// moment, and called again. So it writes each file as a whole: what a cut write leaves over a text
 /// that was cut before, the next call wouldn't know.
 #[tactic(auto, using(crate::proofs::FailedLemmas::call_steps))]
-pub fn recover<F: Files>(
+pub fn recover<F: JournalFiles>(
     alloc: Global,
     files: &mut F,
     place: &JournalPlace,

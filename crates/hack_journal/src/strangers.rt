@@ -2,14 +2,13 @@
 //!
 //! A journal that has one is not restored, so a call notes none.
 
-ghost use Rattle.std.specs.Prelude.{◌≡◌, IfErr, IfOk, codes, nat_eq, false, true};
+ghost use Rattle.std.specs.Prelude.{◌≡◌, IfErr, Some, IfOk, codes, nat_eq, false, true};
 ghost use Rattle.std.specs.List.{ends_with};
 ghost use Rattle.std.specs.Option.{option_map};
 ghost use Rattle.hack_journal.specs.Journal.{edit_of, edits_of};
 ghost use Rattle.hack_journal.specs.Keeping.{IsOfCause};
 ghost use Rattle.hack_journal.specs.Strangers.{first_stranger, is_edit_of_manifest};
 
-use crate::entries::copy;
 use crate::journal::Entry;
 use hack_files::fs::FileFault;
 use std::alloc::Global;
@@ -37,23 +36,23 @@ pub(crate) fn edit_of_manifest(
     alloc: Global,
     path: &str,
     held: Option<Vec<u8>>,
-    bytes: Option<&[u8]>,
+    bytes: &[u8],
 ) -> Result<Entry, FileFault>
     ensures path { IfOk result (λ entry. (edit_of entry).path ≡ path.now) }
     ensures held { IfOk result (λ entry.
         (edit_of entry).held ≡ option_map (λ bytes. bytes.items) held) }
-    ensures wrote { IfOk result (λ entry.
-        (edit_of entry).wrote ≡ option_map (λ bytes. bytes.now) bytes.entry) }
+    ensures wrote { IfOk result (λ entry. (edit_of entry).wrote ≡ Some bytes.now) }
     ensures known { IfOk result (λ entry. is_edit_of_manifest (edit_of entry) ≡ true) }
     ensures why { IfErr result (IsOfCause (is_edit_of_manifest (record {
       path = path.now;
       held = option_map (λ bytes. bytes.items) held;
-      wrote = option_map (λ bytes. bytes.now) bytes.entry;
+      wrote = Some bytes.now;
     }) ≡ false)) }
 {
-    let (Ok(path), Ok(wrote)) = (String::from_str(alloc, path), copy(alloc, bytes)) else {
+    let (Ok(path), Ok(wrote)) = (String::from_str(alloc, path), bytes.to_vec(alloc)) else {
         return Err(FileFault::Memory);
     };
+    let wrote = Some(wrote);
     let entry = Entry { path, held, wrote };
     if is_edit_of_manifest(&entry) {
         Ok(entry)

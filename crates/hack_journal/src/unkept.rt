@@ -24,7 +24,7 @@ impl<'a> Refusal<'a> {
         Refusal { path }
     }
 
-    /// The path that was to be read, written or removed.
+    /// The path that was to be read or written.
     pub fn path(&self) -> &str
         ensures path { result.now ≡ self.now.path.now }
     {
@@ -37,13 +37,13 @@ pub trait Unkept {
     /// How many it was told of. A count of 2^64 - 1 doesn't go up any more.
     ghost told: { Self → ℕ };
 
-    /// Between these states it was told of a write or removal of this path.
+    /// Between these states it was told of a write of this path.
     ghost misses: { Self → Self → List ℕ → Type 0 };
 
     /// Between these states it was told of a read of the journal, and of nothing else.
     ghost reads: { Self → Self → Type 0 };
 
-    /// Tells that a write or removal was refused: what it replaces couldn't be kept.
+    /// Tells that a write was refused: what it replaces couldn't be kept.
     fn note(&mut self, refusal: Refusal<'_>)
         ensures told { GrowsBy 1 (told self.old) (told self.new) }
         ensures path { misses self.old self.new refusal.entry.path.now };

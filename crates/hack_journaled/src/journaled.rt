@@ -25,7 +25,7 @@ ghost use Rattle.hack_run.specs.Standing.{EditsStand};
 ghost use Rattle.hack_run.specs.Worlds.{IsSameHost, IsStatus, host_view};
 
 use hack_base::writes::Sink;
-use hack_files::fs::{Files, Overwrites};
+use hack_files::fs::{Files, JournalFiles};
 use hack_journal::apart::Apart;
 use hack_journal::journaled::Journaled;
 use hack_journal::place::JournalPlace;
@@ -40,7 +40,7 @@ use hack_starts::starts::Starts;
 /// place, where no file may be yet; at the end the journal is removed, unless some file isn't
 /// restored. A change that can't be noted is refused, and `unkept` is told of it: so it is where
 /// memory is refused for that. Lockfiles, which cargo changes too, are those of `lockfiles`.
-pub fn run_journaled<F: Overwrites, L: Files, U: Unkept, C: Starts, O: Sink, E: Sink>(
+pub fn run_journaled<F: JournalFiles, L: Files, U: Unkept, C: Starts, O: Sink, E: Sink>(
     words: &[String],
     reading: Option<Reading>,
     files: F,
@@ -180,7 +180,7 @@ pub fn run_journaled<F: Overwrites, L: Files, U: Unkept, C: Starts, O: Sink, E: 
 
 /// Removes the journal where all files are restored, and returns the number of failed calls, with
 /// an error of that counted. What the journal still has to keep is left to the next call.
-fn end_journal<F: Overwrites, U: Unkept>(files: &mut Journaled<F, U>, failed: u64) -> u64
+fn end_journal<F: JournalFiles, U: Unkept>(files: &mut Journaled<F, U>, failed: u64) -> u64
     ensures handed { F.stays files.old.files files.new.files }
     ensures place { spot_in files.new ≡ spot_in files.old }
     ensures failed { (result ≡ failed) ⊎ ((result ≡ min (failed + 1) (2 ^ 64 - 1))

@@ -14,7 +14,7 @@ use crate::perform::perform;
 use crate::started::{StartFault, Started};
 use crate::system::System;
 use hack_base::writes::Sink;
-use hack_files::fs::{Files, Overwrites};
+use hack_files::fs::{Files, JournalFiles};
 use hack_journal::apart::Apart;
 use hack_journal::journaled::Journaled;
 use hack_journal::unkept::Unkept;
@@ -49,7 +49,7 @@ pub struct Outside<'a, C: Caller, O: Sink, E: Sink> {
 /// the one on colours.
 pub fn call<
     S: System,
-    F: Overwrites,
+    F: JournalFiles,
     L: Files,
     U: Unkept,
     K: Locks,

@@ -11,7 +11,7 @@ ghost use Rattle.hack_recovery.specs.Telling.{IsStarved, SaysRefused, SaysUnkept
 ghost use Rattle.hack_recovery.specs.Texts.{stay_text as text_of_stay, unkept_text};
 
 use hack_base::writes::Sink;
-use hack_files::fs::Files;
+use hack_files::fs::{Files, JournalFiles};
 use hack_places::look::is_there;
 use hack_places::places::Places;
 use hack_term::term::Term;
@@ -20,7 +20,7 @@ use std::alloc::{AllocError, Global};
 /// Warns where a journal stays, or may; where none does, the lockfile's copy is removed, unless the
 /// lockfile may be unwritten. A copy that stays then is warned of too.
 #[tactic(auto, using(hack_files::proofs::FilesLemmas::trace_steps))]
-pub(crate) fn close<F: Files, E: Sink>(
+pub(crate) fn close<F: JournalFiles, E: Sink>(
     alloc: Global,
     places: &Places,
     unwritten: bool,

@@ -30,7 +30,7 @@ use crate::fault::CallFault;
 use crate::restore::tell_restored;
 use hack_base::paths::under;
 use hack_base::writes::Sink;
-use hack_files::fs::{FileFault, Files};
+use hack_files::fs::{FileFault, Files, JournalFiles};
 use hack_files::reason::tell_reason;
 use hack_journal::contents::look;
 use hack_journal::entries::same;
@@ -174,7 +174,7 @@ fn tell_uncopied<F: Files, E: Sink>(alloc: Global, path: &str, files: &F, term: 
 /// Gives the lockfile back what its copy has, where the guard calls, and removes the copy. Returns
 /// whether that is done; if not, an error was reported.
 #[tactic(auto, using(crate::proofs::CountLemmas::counts))]
-pub(crate) fn settle<F: Files, L: Files, C: Caller, O: Sink, E: Sink>(
+pub(crate) fn settle<F: JournalFiles, L: Files, C: Caller, O: Sink, E: Sink>(
     places: &Places,
     files: &mut F,
     lockfiles: &mut L,
@@ -386,7 +386,7 @@ fn holds<F: Files>(
 }
 
 /// Removes the copy. Returns whether that is done; if not, an error was reported.
-fn drop_copy<F: Files, E: Sink>(
+fn drop_copy<F: JournalFiles, E: Sink>(
     alloc: Global,
     places: &Places,
     files: &mut F,

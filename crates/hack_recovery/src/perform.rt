@@ -36,7 +36,7 @@ use crate::tell::{tell_standing, tell_unrestored, tell_watch};
 use crate::unjournaled::unjournaled;
 use crate::unseen::blindly;
 use hack_base::writes::Sink;
-use hack_files::fs::{Files, Overwrites};
+use hack_files::fs::{Files, JournalFiles};
 use hack_journal::apart::Apart;
 use hack_journal::journaled::Journaled;
 use hack_journal::unkept::Unkept;
@@ -55,7 +55,7 @@ use hack_words::cli::Edits;
 /// restores them where it ends early. `files` and `lockfiles` are the same file system; `unkept` is
 /// told of what the journal refuses on its own, which a `u64` counts.
 pub fn perform<
-    F: Overwrites,
+    F: JournalFiles,
     L: Files,
     U: Unkept,
     K: Locks,
@@ -184,7 +184,7 @@ fn plainly<F: Files, C: Starts, O: Sink, E: Sink>(
 }
 
 /// Performs a call under its own lock.
-fn guarded<F: Overwrites, L: Files, U: Unkept, K: Locks, G: Guards, C: Starts, O: Sink, E: Sink>(
+fn guarded<F: JournalFiles, L: Files, U: Unkept, K: Locks, G: Guards, C: Starts, O: Sink, E: Sink>(
     words: &[String],
     begun: Begun,
     files: F,
@@ -225,7 +225,7 @@ fn guarded<F: Overwrites, L: Files, U: Unkept, K: Locks, G: Guards, C: Starts, O
 
 /// Restores all that an interrupted call left. Returns whether it is back; if not, an error was
 /// reported.
-fn take_back<F: Files, L: Files, C: Caller, O: Sink, E: Sink>(
+fn take_back<F: JournalFiles, L: Files, C: Caller, O: Sink, E: Sink>(
     places: &Places,
     files: &mut F,
     lockfiles: &mut L,
@@ -264,7 +264,7 @@ fn is_done(came: &Result<bool, CallFault>) -> bool
 }
 
 /// Performs a call under its own lock, where nothing of an interrupted call is left.
-fn go_on<F: Overwrites, L: Files, U: Unkept, K: Locks, G: Guards, C: Starts, O: Sink, E: Sink>(
+fn go_on<F: JournalFiles, L: Files, U: Unkept, K: Locks, G: Guards, C: Starts, O: Sink, E: Sink>(
     words: &[String],
     begun: Begun,
     files: F,
@@ -313,7 +313,7 @@ fn go_on<F: Overwrites, L: Files, U: Unkept, K: Locks, G: Guards, C: Starts, O: 
 }
 
 /// Performs a call with a journal, under the eyes of a guard.
-fn journaled<F: Overwrites, L: Files, U: Unkept, G: Guards, C: Starts, O: Sink, E: Sink>(
+fn journaled<F: JournalFiles, L: Files, U: Unkept, G: Guards, C: Starts, O: Sink, E: Sink>(
     words: &[String],
     begun: Begun,
     files: F,
@@ -356,7 +356,7 @@ fn journaled<F: Overwrites, L: Files, U: Unkept, G: Guards, C: Starts, O: Sink, 
 }
 
 /// Performs a call with a journal, after the lockfile was copied.
-fn copied<F: Overwrites, L: Files, U: Unkept, C: Starts, O: Sink, E: Sink>(
+fn copied<F: JournalFiles, L: Files, U: Unkept, C: Starts, O: Sink, E: Sink>(
     words: &[String],
     begun: Begun,
     files: F,
@@ -398,7 +398,7 @@ fn copied<F: Overwrites, L: Files, U: Unkept, C: Starts, O: Sink, E: Sink>(
 
 /// Performs a call over a journal, and closes it.
 #[tactic(auto, using(hack_run::proofs::ReadingLemmas::some_or_refusal))]
-fn over_journal<F: Overwrites, L: Files, U: Unkept, C: Starts, O: Sink, E: Sink>(
+fn over_journal<F: JournalFiles, L: Files, U: Unkept, C: Starts, O: Sink, E: Sink>(
     words: &[String],
     begun: Begun,
     files: F,

@@ -17,7 +17,7 @@ ghost use Rattle.hack_files.specs.View.{files_view};
 use crate::fault::CallFault;
 use hack_base::paths::under;
 use hack_base::writes::Sink;
-use hack_files::fs::Files;
+use hack_files::fs::{Files, JournalFiles};
 use hack_files::reason::{is_of_device, tell_reason};
 use hack_journal::journal::Entry;
 use hack_journal::place::JournalPlace;
@@ -34,7 +34,7 @@ const ROW: &str =
 /// Restores what an interrupted call left edited, and reports it. Returns whether it is back; if it
 /// can't be restored, an error was reported. `dir` is the current folder, from which paths are
 /// shown.
-pub(crate) fn restore<F: Files, E: Sink>(
+pub(crate) fn restore<F: JournalFiles, E: Sink>(
     alloc: Global,
     dir: &str,
     place: &JournalPlace,
@@ -94,7 +94,7 @@ fn tell_stranger<E: Sink>(
 }
 
 /// Restores what the journal keeps, and reports it.
-fn bring_back<F: Files, E: Sink>(
+fn bring_back<F: JournalFiles, E: Sink>(
     alloc: Global,
     dir: &str,
     place: &JournalPlace,

@@ -1,10 +1,10 @@
 //! Files by questions, which are the same for all kinds of files.
 //!
-//! `read PATH`, `write PATH TEXT`, `overwrite PATH TEXT`, `exists PATH`, `remove PATH` and `failures`
-//! are the methods of `Files`. `bytes PATH`, `text PATH` and `put PATH TEXT` read and write with
-//! errors that have the path, and `fault PATH` asks whether such an error of reading is the one of
-//! this path. `held PATH ..` shows the contents at the paths, each after its name, and `-` where
-//! nothing can be read.
+//! `read PATH`, `write PATH TEXT`, `exists PATH` and `failures` are the methods of `Files`,
+//! `overwrite PATH TEXT` and `remove PATH` those of `JournalFiles`. `bytes PATH`, `text PATH` and
+//! `put PATH TEXT` read and write with errors that have the path, and `fault PATH` asks whether such
+//! an error of reading is the one of this path. `held PATH ..` shows the contents at the paths, each
+//! after its name, and `-` where nothing can be read.
 
 mod disk;
 mod failing;
@@ -14,24 +14,24 @@ mod restore;
 mod short;
 
 use crate::tests::text::{number, plain, push_plain, push_quoted, quoted};
-use hack_files::fs::{FileFault, Files, Overwrites};
+use hack_files::fs::{FileFault, Files, JournalFiles};
 use hack_holds::{Ask, Wrong, hold};
 use std::alloc::{AllocError, Global};
 
 /// The files to which the questions are put.
 #[derive(Drop)]
-struct Asked<F: Overwrites + Drop> {
+struct Asked<F: JournalFiles + Drop> {
     files: F,
 }
 
-impl<F: Overwrites + Drop> Ask for Asked<F> {
+impl<F: JournalFiles + Drop> Ask for Asked<F> {
     fn answer(&mut self, alloc: Global, question: &str) -> Result<String, AllocError> {
         answer_over(alloc, &mut self.files, "", question)
     }
 }
 
 /// Checks rows on files.
-fn hold_over<F: Overwrites + Drop>(alloc: Global, files: F, rows: &str) -> Result<(), Wrong> {
+fn hold_over<F: JournalFiles + Drop>(alloc: Global, files: F, rows: &str) -> Result<(), Wrong> {
     let mut asked = Asked { files };
     hold(alloc, &mut asked, rows)
 }
@@ -43,20 +43,24 @@ fn path_of(alloc: Global, folder: &str, name: &str) -> Result<String, AllocError
     Ok(path)
 }
 
-/// Answers a question about files in a folder, which may be written over.
-pub fn answer_over<F: Overwrites>(
+/// Answers a question about files in a folder, which may be written over and removed.
+pub fn answer_over<F: JournalFiles>(
     alloc: Global,
     files: &mut F,
     folder: &str,
     question: &str,
 ) -> Result<String, AllocError> {
-    let Some(("overwrite", rest)) = question.split_once(' ') else {
-        return answer(alloc, files, folder, question);
-    };
+    let (kind, rest) = question.split_once(' ').unwrap_or((question, ""));
     let (name, shown) = rest.split_once(' ').unwrap_or((rest, ""));
     let path = path_of(alloc, folder, name)?;
-    let text = plain(alloc, shown)?;
-    done(alloc, files.overwrite(path.as_str(), text.as_bytes()))
+    match kind {
+        "overwrite" => {
+            let text = plain(alloc, shown)?;
+            done(alloc, files.overwrite(path.as_str(), text.as_bytes()))
+        }
+        "remove" => done(alloc, files.remove(path.as_str())),
+        _ => answer(alloc, files, folder, question),
+    }
 }
 
 /// Answers a question about files in a folder.
@@ -74,7 +78,6 @@ pub fn answer<F: Files>(
         "read" => read(alloc, files, path),
         "write" => write(alloc, files, path, text),
         "exists" => truth(alloc, files.exists(path)),
-        "remove" => done(alloc, files.remove(path)),
         "failures" => number(alloc, files.failures()),
         "held" => held(alloc, files, rest),
         "bytes" => faults::bytes(alloc, files, path),

@@ -26,7 +26,7 @@ use crate::tests::files::{answer, held, truth};
 use crate::tests::journal::failing::left;
 use crate::tests::journal::spelled::{entries, spelled, torn};
 use hack_base::paths::join;
-use hack_files::fs::{FileChange, FileFault, Files, MemoryFiles, Overwrites};
+use hack_files::fs::{FileChange, FileFault, Files, JournalFiles, MemoryFiles};
 use hack_holds::{Ask, Wrong, hold};
 use hack_journal::apart::Apart;
 use hack_journal::journaled::Journaled;
@@ -45,7 +45,7 @@ fn place(alloc: Global, folder: &str) -> Result<JournalPlace, AllocError> {
 }
 
 /// These files with a journal over them, in this folder.
-fn journaled<F: Overwrites + Drop>(
+fn journaled<F: JournalFiles + Drop>(
     alloc: Global,
     files: F,
     folder: &str,
@@ -66,7 +66,11 @@ fn replayed(alloc: Global, steps: &[FileChange]) -> Result<MemoryFiles, FileFaul
 }
 
 /// The paths that were restored, or the error.
-fn recovered<F: Files>(alloc: Global, files: &mut F, folder: &str) -> Result<String, AllocError> {
+fn recovered<F: JournalFiles>(
+    alloc: Global,
+    files: &mut F,
+    folder: &str,
+) -> Result<String, AllocError> {
     let place = place(alloc, folder)?;
     match recover(alloc, files, &place) {
         Ok(paths) if paths.is_empty() => String::from_str(alloc, "nothing"),

@@ -5,9 +5,9 @@
 //! it shows what is written, and which of them fail. The other questions are about files that the
 //! test makes; `failures below` are those of the files in memory beneath them.
 
-use crate::tests::files::answer;
+use crate::tests::files::answer_over;
 use crate::tests::text::{number, number_of};
-use hack_files::fs::{FailingFiles, FailingWriter, Files, MemoryFiles};
+use hack_files::fs::{FailingFiles, FailingWriter, Files, JournalFiles, MemoryFiles};
 use hack_holds::{Ask, Wrong, hold};
 use std::alloc::{AllocError, Global};
 use std::io::Write;
@@ -28,7 +28,7 @@ impl Ask for Failing {
             Some(("calls", call)) => calls(alloc, &mut failing_files(alloc, number_of(call))),
             Some(("writes", call)) => writes(alloc, number_of(call)),
             Some(("failures", "below")) => number(alloc, self.files.inner().failures()),
-            _ => answer(alloc, &mut self.files, "", question),
+            _ => answer_over(alloc, &mut self.files, "", question),
         }
     }
 }
@@ -43,10 +43,10 @@ static CALLS: [&str; 7] = [
     "read a",
 ];
 
-fn calls<F: Files>(alloc: Global, files: &mut F) -> Result<String, AllocError> {
+fn calls<F: JournalFiles>(alloc: Global, files: &mut F) -> Result<String, AllocError> {
     let mut found = String::new(alloc);
     for call in &CALLS {
-        found.push_str(answer(alloc, files, "", call)?.as_str())?;
+        found.push_str(answer_over(alloc, files, "", call)?.as_str())?;
         found.push(' ')?;
     }
     found.push_str(number(alloc, files.failures())?.as_str())?;

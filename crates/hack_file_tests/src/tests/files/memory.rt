@@ -1,7 +1,7 @@
 //! Files in memory. Besides the questions of all files there are `changes`, how many were made, and
 //! `list of changes`.
 
-use crate::tests::files::{CALLS, answer, hold_over};
+use crate::tests::files::{CALLS, answer_over, hold_over};
 use crate::tests::text::number;
 use hack_files::fs::MemoryFiles;
 use hack_holds::{Ask, Wrong, hold};
@@ -16,7 +16,7 @@ pub fn in_memory(
     match question {
         "changes" => number(alloc, files.steps().len() as u64),
         "list of changes" => format!(in alloc; "{:?}", files.steps()),
-        _ => answer(alloc, files, "", question),
+        _ => answer_over(alloc, files, "", question),
     }
 }
 

@@ -41,7 +41,6 @@ fn lockfiles_pass_the_journal_by(rt: HostRuntime) -> Result<(), Wrong> {
     )
 }
 
-// Nor is a journal left where only a lockfile is removed.
 #[test]
 fn no_journal_is_left_once_both_are_back(rt: HostRuntime) -> Result<(), Wrong> {
     on(
@@ -57,10 +56,6 @@ fn no_journal_is_left_once_both_are_back(rt: HostRuntime) -> Result<(), Wrong> {
                 | true
                 > apart: exists w/Cargo.lock
                 | true
-                > apart: remove w/Cargo.lock
-                | ok
-                > apart: exists w/Cargo.lock
-                | false
                 > apart: failures
                 | 0
                 > end

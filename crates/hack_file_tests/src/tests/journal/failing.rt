@@ -8,7 +8,7 @@
 use crate::tests::files::held;
 use crate::tests::journal::{journaled, on, recovered, replayed};
 use crate::tests::text::number_of;
-use hack_files::fs::{FailingFiles, FileFault, Files, MemoryFiles, Overwrites};
+use hack_files::fs::{FailingFiles, FileFault, Files, JournalFiles, MemoryFiles};
 use hack_holds::Wrong;
 use hack_journal::journaled::Journaled;
 use std::alloc::{AllocError, Global};
@@ -47,7 +47,7 @@ fn edited(alloc: Global, call: u64) -> Result<MemoryFiles, AllocError> {
     }
 }
 
-fn edit<F: Overwrites>(files: &mut Journaled<F, u64>) -> Result<bool, FileFault> {
+fn edit<F: JournalFiles>(files: &mut Journaled<F, u64>) -> Result<bool, FileFault> {
     files.write("a/Cargo.toml", b"x")?;
     files.write("c/Cargo.toml", b"new")?;
     files.write("a/Cargo.toml", b"one")?;

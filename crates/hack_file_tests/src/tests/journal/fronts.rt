@@ -252,12 +252,10 @@ fn the_journal_is_none_of_the_files(rt: HostRuntime) -> Result<(), Wrong> {
             | device
             > write j/Cargo.toml new
             | device
-            > remove j~1
-            | device
             > read jam
             | device
             > failures
-            | 4
+            | 3
             > finish
             | false
             > end
@@ -292,12 +290,8 @@ fn only_edits_of_manifests_are_noted(rt: HostRuntime) -> Result<(), Wrong> {
             | device
             > write /w/a/Cargo.toml new
             | device
-            > remove /w/Cargo.toml
-            | device
-            > remove /w/x
-            | device
             > failures
-            | 5
+            | 3
             > finish
             | true
             > end

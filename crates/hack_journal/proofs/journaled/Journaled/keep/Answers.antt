@@ -1,15 +1,15 @@
-use Rattle.std.proofs.Common.{◌≡◌, ap, sym, subst, inl, inr, string_bytes}
+use Rattle.std.proofs.Common.{◌≡◌, ◌∙◌, Some, ap, sym, subst, inl, inr, string_bytes}
 use Rattle.hack_files.specs.TraceLaws.{makes_none}
 use Rattle.hack_journal.specs.SafeLaws.{stays_none, stays_join}
-use Rattle.hack_journal.specs.SafeFiles.{Stays}
+use Rattle.hack_journal.specs.SafeFiles.{SomeEntryHasBytes, Stays}
 use Rattle.hack_journal.specs.Internal.{IsNotable}
 use Rattle.hack_journal.specs.Rows.{Noted}
 use Rattle.hack_journal.specs.FileCalls.{spot_in}
 use Rattle.hack_journal.proofs.FinishLemmas.{all_same}
 use Rattle.hack_journal.proofs.RefusingLemmas.{grow_more}
-use Rattle.hack_journal.proofs.SafeLemmas.{hidden_none, hidden_then, notable_of, told_ok}
+use Rattle.hack_journal.proofs.SafeLemmas.{held_told, hidden_none, hidden_then, notable_of, told_ok}
 use Rattle.hack_journal.specs.Journal.{edit_of}
-use Rattle.std.proofs.lemmas.Result.{err_from_is_err_and}
+use Rattle.std.proofs.lemmas.Result.{err_from_is_err_and, on_ok_weaker}
 use Rattle.hack_journal.specs.Keeping.{CannotAppend}
 use Rattle.hack_journal.proofs.KeepingLemmas.{append_then, cause_wider, fails_then, next_then}
 use Rattle.hack_journal.proofs.journaled.Journaled.keep.Goals as goal
@@ -37,7 +37,7 @@ returns-in_err-entry-clause-stays g c = λ out tells whole.
     (sym (ap (λ s. s.notes) c.in_err-entry.ensures.rest)) (stays_none _ _ _ _ _ _ (c.in_err-entry.ensures.untraced whole))
 
 pub returns-clause-told : goal.returns-clause-told
-returns-clause-told g c = told_ok c.append.result c.entry.new.self.notes.entries c.append.new.self.notes.entries (edit_of c.in_ok-entry.entry) _ _ c.append.ensures.added c.in_ok-entry.ensures.path c.in_ok-entry.ensures.wrote
+returns-clause-told g c = on_ok_weaker c.append.result (λ has tells. inl has) (told_ok c.append.result c.entry.new.self.notes.entries c.append.new.self.notes.entries (edit_of c.in_ok-entry.entry) _ _ c.append.ensures.added c.in_ok-entry.ensures.path c.in_ok-entry.ensures.wrote)
 
 pub returns-then-tells-clause-stays : goal.returns-then-tells-clause-stays
 returns-then-tells-clause-stays g c = λ out tells whole. stays_none _ _ _ _ _ _ (makes_none _ _)
@@ -82,3 +82,20 @@ returns-clause-refused g c =
     let mid = c.entry.new.self in
     let notes : mid.notes ≡ s.notes = ap (λ s. s.notes) c.in_ok-entry.ensures.rest in
     next_then g.F.Files s.notes s.files mid.files c.append.new.self.files c.in_ok-entry.ensures.refused_none (rw notes at c.append.ensures.refused)
+
+pub returns-then-same-clause-stays : goal.returns-then-same-clause-stays
+returns-then-same-clause-stays g c = λ out tells whole.
+    subst (λ (n : Noted). Stays (spot_in c.args.self.now) c.args.self.now.notes.entries n.entries (g.F.Files.trace c.args.self.now.files) (g.F.Files.trace c.entry.new.self.files) (g.F.Files.bytes_at c.args.self.now.files) (g.F.Files.bytes_at c.entry.new.self.files))
+    (sym (ap (λ s. s.notes) c.in_ok-entry.ensures.rest)) (stays_none _ _ _ _ _ _ (c.in_ok-entry.ensures.untraced whole))
+
+pub returns-then-same-clause-told : goal.returns-then-same-clause-told
+returns-then-same-clause-told g c = λ tells.
+    let s = c.args.self.now in
+    let mid = c.entry.new.self in
+    let path = c.args.path.now in
+    let notes : mid.notes ≡ s.notes = ap (λ s. s.notes) c.in_ok-entry.ensures.rest in
+    let is : (edit_of c.in_ok-entry.entry).held ≡ Some c.args.bytes.now = sym c.as_deref.ensures.value ∙ c.same.ensures.0 c.if-same.true in
+    elim (held_told s.notes.entries path (g.F.Files.bytes_at s.files path) (edit_of c.in_ok-entry.entry).held (Some c.args.bytes.now) (c.in_ok-entry.ensures.held tells) is) [
+      | inl has ↦ inl (subst (λ (n : Noted). SomeEntryHasBytes n.entries path (Some c.args.bytes.now)) (sym notes) has)
+      | inr now ↦ inr (c.in_ok-entry.ensures.same tells path ∙ now)
+    ]
