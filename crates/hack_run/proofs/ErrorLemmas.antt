@@ -22,15 +22,6 @@ advised coloring advice text old new is wrote = subst (λ (o : Option (List ℕ)
 pub unadvised : (coloring : Coloring) (advice : Option (List ℕ)) (old new : Stream) → None ≡ advice → new ≡ old → WritesAll (map (info_line coloring) (option_to_list advice)) old new
 unadvised coloring advice old new is same = subst (λ (o : Option (List ℕ)). WritesAll (map (info_line coloring) (option_to_list o)) old new) is same
 
--- a conjunction with one part that is false
-pub first_false : (a b : Bool) → a ≡ false → (a && b) ≡ false
-first_false false b is = refl
-first_false true b is = absurd (cc)
-
-pub second_false : (a b : Bool) → b ≡ false → (a && b) ≡ false
-second_false false b is = refl
-second_false true b is = is
-
 -- what to say where a variable chose the program
 pub unchosen : (env : Env) (command : Name) → (bytes_eq (string_bytes env.cargo) (codes "cargo") && starts_with nat_eq command (codes "`cargo ")) ≡ false
     → (bytes_eq (string_bytes env.rustup) (codes "rustup") && starts_with nat_eq command (codes "`rustup ")) ≡ false

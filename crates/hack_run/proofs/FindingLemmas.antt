@@ -21,16 +21,6 @@ use Rattle.hack_plan.specs.View.{PlanView}
 use Rattle.hack_session.specs.Histories.{HasPassed}
 use Rattle.hack_session.specs.declared.step.Outcome.TheVariants as step
 
--- one element more
-pub all-more : {X : Type 0} (P : X → Type 0) (xs : List X) (k : ℕ) (d : X) → k < length xs → All P (take k xs) → P (get_or xs k d) → All P (take (k + 1) xs)
-all-more P xs k d lt all one = subst (All P) (sym (take_more xs k d lt)) (All-append P (take k xs) (get_or xs k d ∷ []) all (All-cons P (get_or xs k d) [] one (All-nil P)))
-
--- all elements
-pub all-whole : {X : Type 0} (P : X → Type 0) (xs : List X) (k : ℕ) → length xs ≤ k → All P (take k xs) → All P xs
-all-whole P xs k le all = λ i d lt.
-    let long = length-take k xs in
-    subst P (get_or-take k xs i d (omega arith)) (all i d (omega (arith, long)))
-
 -- where each step passed, no search was broken off
 pub not_broken : (plan : PlanView) (searches : List (List Trial)) (found : List Found) → AreSearches plan 0 searches found → Contains found Broken → All HasPassed (handed_in_all searches) → ⊥
 not_broken plan searches found such broken passed =

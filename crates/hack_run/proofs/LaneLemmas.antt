@@ -60,11 +60,6 @@ module _ {S : Type 0} (did : List Event → S → S → Type 0) (course : S → 
         | inr ran ↦ inr (inr (cx, context, stable, before, between, asked, ran))
       ]
 
--- what holds of a success holds of what follows from it
-pub on_success : {T E : Type 0} (P Q : Type 0) (r : Result T E) → (P → Q) → OnOk r P → OnOk r Q
-on_success P Q (Ok v) turn h = turn h
-on_success P Q (Err e) turn h = tt
-
 -- what holds anyway holds of a success
 pub on_any : {T E P : Type 0} (r : Result T E) → P → OnOk r P
 on_any (Ok v) h = h

@@ -9,8 +9,7 @@ use Rattle.hack_files.specs.View.{files_view}
 use Rattle.hack_run.specs.Worlds.{world_of}
 use Rattle.hack_run.proofs.BackLemmas.{clean_by}
 use Rattle.hack_run.proofs.ChangeLemmas.{traces}
-use Rattle.hack_run.proofs.TraceLemmas.{done}
-use Rattle.hack_run.proofs.LaneLemmas.{on_success}
+use Rattle.hack_run.proofs.TraceLemmas.{done, on_ok}
 use Rattle.hack_run.proofs.LastingLemmas.{reads_left}
 use Rattle.hack_run.proofs.run.read.Goals as goal
 
@@ -60,7 +59,7 @@ returns-in_err-parsed-clause-spoilt g c = λ back. but_none (g.F.Files.refuses c
 pub returns-in-Accepted-clause-lanes : goal.returns-in-Accepted-clause-lanes
 returns-in-Accepted-clause-lanes g c =
     let after = rw c.in-Accepted.is at c.in_ok-parsed.ensures.read in
-    on_success _ _ c.obey.result (λ obeyed. record {
+    on_ok _ _ c.obey.result (λ obeyed. record {
       mid = c.reading_of.new.caller;
       between = c.reading_of.ensures.course;
       asked = c.reading_of.ensures.may;
@@ -109,7 +108,7 @@ returns-in_err-parsed-clause-shown g c = λ t. inl (refl, inr (search rules, c.r
 pub returns-in-Accepted-clause-stood : goal.returns-in-Accepted-clause-stood
 returns-in-Accepted-clause-stood g c =
     let after = rw c.in-Accepted.is at c.in_ok-parsed.ensures.read in
-    on_success _ _ c.obey.result (λ obeyed. record {
+    on_ok _ _ c.obey.result (λ obeyed. record {
       mid = g.C.Caller.calls c.reading_of.new.caller;
       rustup = after.rustup;
       answer = c.in-Accepted.parsed;

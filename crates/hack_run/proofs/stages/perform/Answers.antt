@@ -11,8 +11,7 @@ use Rattle.hack_run.specs.Worlds.{host_view}
 use Rattle.hack_term.specs.declared.term.Term.{Term}
 use Rattle.hack_run.proofs.ChangeLemmas.{by_bool, changes, edits_back}
 use Rattle.hack_run.proofs.LoadingLemmas.{loaded}
-use Rattle.hack_run.proofs.TraceLemmas.{made, performs}
-use Rattle.hack_run.proofs.LaneLemmas.{on_success}
+use Rattle.hack_run.proofs.TraceLemmas.{made, on_ok, performs}
 use Rattle.hack_run.proofs.LastingLemmas.{left_behind}
 use Rattle.hack_files.specs.Files.{KeepsAll}
 use Rattle.hack_load.specs.declared.fault.ContextFault.{ContextFault}
@@ -99,7 +98,7 @@ returns-clause-spoilt g c = λ kept.
 pub returns-clause-lanes : goal.returns-clause-lanes
 returns-clause-lanes g c =
     let calls = g.C.Caller.calls in
-    on_success _ _ c.follow-came.result (λ behind. record {
+    on_ok _ _ c.follow-came.result (λ behind. record {
       answers = c.ask-answers.result;
       mid = c.ask-answers.new.caller;
       between = c.ask-answers.ensures.course;
@@ -171,7 +170,7 @@ returns-clause-stood g c =
     let asked = g.F.Files.bytes_at c.ask-answers.new.files in
     let at = g.F.Files.bytes_at c.follow-came.new.files in
     let whole = whole_keeps g.F.Files.tells first asked (g.F.Files.failed c.args.files.now) (g.F.Files.failed c.ask-answers.new.files) c.ask-answers.result.loaded c.ask-answers.ensures.whole in
-    on_success _ _ c.follow-came.result (λ h. record {
+    on_ok _ _ c.follow-came.result (λ h. record {
       answers = c.ask-answers.result;
       mid = calls c.ask-answers.new.caller;
       cx = h.0;

@@ -1,4 +1,5 @@
 use Rattle.std.proofs.Common.{◌∙◌, ap, inl, inr, refl, sym}
+use Rattle.std.specs.Option.{option_copied}
 use Rattle.hack_base.proofs.StreamLemmas.{wrote}
 use Rattle.hack_files.specs.Faults.{file_text}
 use Rattle.hack_run.specs.Errors.{text_of}
@@ -15,4 +16,4 @@ returns-in-Ok-clause-shown g c =
 
 pub returns-in-Err-clause-shown : goal.returns-in-Err-clause-shown
 returns-in-Err-clause-shown g c =
-    (_, inr (sym c.failed_file.ensures, refl), wrote g.E.Sink _ _ _ c.error-in-Err.result c.error-in-Err.ensures.line c.error-in-Err.ensures.front c.error-in-Err.ensures.counted)
+    (_, inr (sym (ap option_copied (sym c.in_default.is) ∙ c.failed_file.ensures), refl), wrote g.E.Sink _ _ _ c.error-in-Err.result c.error-in-Err.ensures.line c.error-in-Err.ensures.front c.error-in-Err.ensures.counted)
