@@ -281,7 +281,7 @@ def wrong_field(table):
 
 def cause_of_tables(workspace, asked, packages):
     """Why these tables of rules leave no plan, if they do: the workspace's first, and then package by package a wrong field,
-    or else a feature that is excluded and in a group."""
+    or else a feature that is excluded, and in a group or to be included, as no other one is."""
     places = [("[workspace.metadata.cargo-hack]", workspace)]
     places += [(f"[package.metadata.cargo-hack] of package `{it['name']}`", it) for it in packages]
     for place, held in places:
@@ -290,7 +290,7 @@ def cause_of_tables(workspace, asked, packages):
             return [f"failed to parse `{field}` field from {place}"]
         grouped = [] if held is workspace else Rules(workspace, asked, held).excluded_in_groups()
         if grouped:
-            return [f"feature `{grouped[0]}` of package `{held['name']}` is both in exclude-features and in group-features"]
+            return [f"feature `{grouped[0]}` of package `{held['name']}` is excluded, and also in a group or in --include-features"]
     return []
 
 
@@ -308,7 +308,7 @@ class Rules:
     workspace's."""
 
     def __init__(self, workspace, asked, package):
-        self.is_powerset, self.features = asked.has("--feature-powerset"), asked.features
+        self.is_powerset, self.features, self.include = asked.has("--feature-powerset"), asked.features, asked.include
         self.excluded, self.groups, self.required = list(asked.excluded), list(asked.groups), list(asked.required)
         lifted = [names for name, names in asked.lifted if name == package["name"]]
         self.exclusive = [group for group in asked.exclusive if group not in lifted]
@@ -324,8 +324,14 @@ class Rules:
                 group for group in table_of(workspace).get("group-features", []) if set(group) <= had]}))
 
     def excluded_in_groups(self):
-        """The names in groups that are excluded; those of `--features`, which each run has, aren't."""
-        return [name for group in self.groups for name in group if name in self.excluded and name not in self.features]
+        """The names in groups that are excluded, and those to be included, where all are; those of `--features`, which each run
+        has, aren't."""
+
+        def among(names):
+            return [name for name in names if name in self.excluded and name not in self.features]
+
+        included = among(self.include)
+        return among(name for group in self.groups for name in group) + (included if included == self.include else [])
 
     def asks_for(self, name):
         """An optional dependency is asked for."""
@@ -353,6 +359,30 @@ class Rules:
             self.drops_none |= required != []
             self.depth = table.get("depth") if self.depth is None else self.depth
             self.strength = table.get("strength") if self.strength is None else self.strength
+
+
+def workspace_notes(workspace, asked):
+    """The warning that no table has a rule, or those on names of the workspace's table that no member has."""
+    if not asked.has("--package-rules"):
+        return []
+    members = [it for it in workspace["packages"] if it["id"] in workspace["members"]]
+    if not any(has_rule(table_of(it)) for it in [workspace, *members]):
+        return [
+            "warning: --package-rules found no rule: neither [workspace.metadata.cargo-hack] nor [package.metadata.cargo-hack]"
+            " of a member has one"
+        ]
+    loaded = asked.has("--include-deps-features")
+    known = {name for it in members for part in pool(workspace, it)[: 3 if loaded else 2] for name in part}
+    return [
+        f"warning: feature `{name}` of [workspace.metadata.cargo-hack] not found in any member"
+        for name in names_in(table_of(workspace))
+        if name not in known and (loaded or "/" not in name)
+    ]
+
+
+def has_rule(table):
+    """A table says something: an empty list, `false` and a table that isn't there don't."""
+    return any(value is not False and value != [] for value in table.values())
 
 
 def table_notes(workspace, asked, packages):
@@ -624,7 +654,7 @@ class Plan:
         self.versions, self.places, self.texts = sorted(used), [], []
         if self.causes:
             return
-        self.notes = table_notes(workspace, asked, [it for _, it in chosen])
+        self.notes = workspace_notes(workspace, asked) + table_notes(workspace, asked, [it for _, it in chosen])
         self.packages = packages = dict(chosen)
         self.runs = runs = {}
         for place, it in chosen:

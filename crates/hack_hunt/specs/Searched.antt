@@ -12,9 +12,9 @@ use Rattle.hack_hunt.specs.Hunts.{Spot, spots_of}
 use Rattle.hack_plan.specs.Commands.{slots_in}
 use Rattle.hack_plan.specs.Prepared.{span_of}
 use Rattle.hack_plan.specs.View.{CallView, PackageView, PlanView}
-use Rattle.hack_planner.specs.Calls.{call_of, candidate_notes_at, given_path, rules_at, table_fault}
+use Rattle.hack_planner.specs.Calls.{AreFirstNotes, call_of, candidate_notes_at, given_path, rules_at, table_fault}
 use Rattle.hack_planner.specs.Candidates.{candidates}
-use Rattle.hack_planner.specs.ContextMembers.{AreChosen, AreChoiceNotes, IsChoiceFault}
+use Rattle.hack_planner.specs.ContextMembers.{AreChosen, IsChoiceFault}
 use Rattle.hack_planner.specs.declared.fault.PackagesFault.{PackagesFault}
 
 -- a chosen package with its texts and its candidates, and without a run
@@ -50,7 +50,7 @@ pub record IsSearchPlan (cx : ContextRecord) (call : CallView) (plan : PlanView)
   pub chosen : AreChosen cx ids
   pub single : Bool
   pub on_packages : List Note
-  pub noted : AreChoiceNotes cx single on_packages
+  pub noted : AreFirstNotes cx single on_packages
   pub packages : AllZip (IsSearchedPackage cx) ids plan.packages
   pub placeless : HasNoPlaces call plan
   pub told : notes ≡ (on_packages ++ flat_map (candidate_notes_at cx single) ids) ++ left_out_notes cx (spots_of ids (slots_in call None))

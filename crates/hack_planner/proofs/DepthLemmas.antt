@@ -12,20 +12,17 @@ use Rattle.hack_base.specs.Names.{Name}
 use Rattle.hack_sets.specs.Sets.{IsSelection, IsBefore, IsListing, IsWithin, Pairwise, singles}
 use Rattle.hack_features.specs.Rules.{Choice, IsListed, IsRedundant, NotBothReach, Serves, names_at, names_in}
 use Rattle.hack_routes.specs.FeatureMap.{EnablesOneOf}
-use Rattle.hack_base.proofs.Members.{Contains-cons_cases}
+use Rattle.hack_base.proofs.Members.{Contains-cons_cases, Contains-nil}
 use Rattle.hack_sets.proofs.Listing.{selection_none, selection_push, selection_up}
-use Rattle.hack_sets.proofs.OrderLemmas.{before_trans}
 use Rattle.std.specs.Option.{is_none, option_map_or}
 use Rattle.hack_plan.specs.Runs.{PackageRun, Plain, AllFeatures, NoDefaultFeatures, Set, is_plain, keeps_all, run_if, in_turn}
 use Rattle.hack_plan.specs.RunsView.{with_last_first}
 use Rattle.hack_planner.specs.Candidates.{candidates}
+use Rattle.hack_planner.proofs.OnceLemmas.{ordered-once}
 use Rattle.hack_planner.specs.Kinds.{ArePowersets, AreSetRuns, AreRuns, AreSets, IsDepthOne, as_each, package_choice, options_of}
 
-in-none : {X : Type 0} (x : X) → Contains [] x → ⊥
-in-none x c = absurd (omega (arith, c.1))
-
 in-one : (p q : ℕ) → Contains (p ∷ []) q → p ≡ q
-in-one p q c = elim (Contains-cons_cases p [] q c) [ inl e ↦ e | inr d ↦ absurd (in-none q d) ]
+in-one p q c = elim (Contains-cons_cases p [] q c) [ inl e ↦ e | inr d ↦ absurd (Contains-nil q d) ]
 
 before-one : (p q : ℕ) → p < q → IsBefore (p ∷ []) (q ∷ [])
 before-one p q lt = record {
@@ -57,12 +54,6 @@ single-in n p lt = (p, omega (arith, length-map-range_with_len (λ (p : ℕ). p 
 
 selection-one : (n p : ℕ) → p < n → IsSelection n (p ∷ [])
 selection-one n p lt = selection_up (suc p) n (p ∷ []) (omega arith) (selection_push p [] (selection_none p))
-
-at : {X : Type 0} (P : X → Type 0) (xs : List X) (x : X) → All P xs → Contains xs x → P x
-at P xs x all c = subst P c.2 (all c.0 x c.1)
-
-strict : (s t : List ℕ) → IsBefore s t → IsBefore t s → ⊥
-strict s t b d = let r = before_trans s t s b d in r.absent r.present
 
 -- a set of one candidate is lean
 lean-one : (c : Choice) (p : ℕ) → IsRedundant c (p ∷ []) → ⊥
@@ -103,41 +94,11 @@ singles-listing n c depth exclusive wanted = record {
   );
 }
 
-first-of : {X : Type 0} (x : X) (xs : List X) → Contains (x ∷ xs) x
-first-of x xs = (0, omega arith, refl)
-
-behind : {X : Type 0} (x : X) (xs : List X) (y : X) → Contains xs y → Contains (x ∷ xs) y
-behind x xs y c = (suc c.0, omega (arith, c.1), c.2)
-
-tail-in : (x y : List ℕ) (xs ys : List (List ℕ)) → x ≡ y → All (IsBefore x) xs → ((s : List ℕ) → Contains (x ∷ xs) s → Contains (y ∷ ys) s) → (s : List ℕ) → Contains xs s → Contains ys s
-tail-in x y xs ys same before f s c =
-    elim (Contains-cons_cases y ys s (f s (behind x xs s c))) [
-      | inl e ↦ absurd (strict x x (subst (IsBefore x) (sym (same ∙ e)) (at (IsBefore x) xs s before c)) (subst (IsBefore x) (sym (same ∙ e)) (at (IsBefore x) xs s before c)))
-      | inr d ↦ d
-    ]
-
--- two lists in order with the same members are the same
-unique : (xs ys : List (List ℕ)) → Pairwise IsBefore xs → Pairwise IsBefore ys → ((s : List ℕ) → Contains xs s → Contains ys s) → ((s : List ℕ) → Contains ys s → Contains xs s) → xs ≡ ys
-unique [] [] ox oy f g = refl
-unique [] (y ∷ ys) ox oy f g = absurd (in-none y (g y (first-of y ys)))
-unique (x ∷ xs) [] ox oy f g = absurd (in-none x (f x (first-of x xs)))
-unique (x ∷ xs) (y ∷ ys) ox oy f g =
-    let same : x ≡ y =
-    elim (Contains-cons_cases y ys x (f x (first-of x xs))) [
-      | inl e ↦ sym e
-      | inr iny ↦ elim (Contains-cons_cases x xs y (g y (first-of y ys))) [
-        | inl e ↦ e
-        | inr inx ↦ absurd (strict x y (at (IsBefore x) xs y ox.0 inx) (at (IsBefore y) ys x oy.0 iny))
-      ]
-    ] in
-    let rest : xs ≡ ys = unique xs ys ox.1 oy.1 (tail-in x y xs ys same ox.0 f) (tail-in y x ys xs (sym same) oy.0 g) in
-    ap (λ t. t ∷ xs) same ∙ ap (λ t. y ∷ t) rest
-
 -- a listing of sets of one candidate is each alone
 all-single : (n : ℕ) (c : Choice) (sets : List (List ℕ)) → c.depth ≡ Some 1 → c.exclusive ≡ [] → c.at_least_one_of ≡ [] → IsListing n (IsListed c) sets → sets ≡ singles n
 all-single n c sets depth exclusive wanted l =
     let m = singles-listing n c depth exclusive wanted in
-    unique sets (singles n) l.ordered m.ordered (λ s h. (m.exact s).1 ((l.exact s).0 h)) (λ s h. (l.exact s).1 ((m.exact s).0 h))
+    ordered-once sets (singles n) l.ordered m.ordered (λ s h. (m.exact s).1 ((l.exact s).0 h)) (λ s h. (l.exact s).1 ((m.exact s).0 h))
 
 or-true : (a : Bool) → (a || true) ≡ true
 or-true true = refl

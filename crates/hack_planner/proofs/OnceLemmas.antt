@@ -97,7 +97,7 @@ behind-in x y xs ys same before f s c =
     ]
 
 -- two ordered lists with the same members are equal
-ordered-once : (xs ys : List (List ℕ)) → Pairwise IsBefore xs → Pairwise IsBefore ys → ((s : List ℕ) → Contains xs s → Contains ys s) → ((s : List ℕ) → Contains ys s → Contains xs s) → xs ≡ ys
+pub ordered-once : (xs ys : List (List ℕ)) → Pairwise IsBefore xs → Pairwise IsBefore ys → ((s : List ℕ) → Contains xs s → Contains ys s) → ((s : List ℕ) → Contains ys s → Contains xs s) → xs ≡ ys
 ordered-once [] [] ox oy f g = refl
 ordered-once [] (y ∷ ys) ox oy f g = absurd (Contains-nil y (g y (Contains-head y ys)))
 ordered-once (x ∷ xs) [] ox oy f g = absurd (Contains-nil x (f x (Contains-head x xs)))

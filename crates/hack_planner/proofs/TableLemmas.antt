@@ -22,7 +22,7 @@ use Rattle.hack_planner.specs.Calls.{grouped_at, own_fault_at}
 use Rattle.hack_planner.specs.PackageRules.{PackageRulesRecord, rules_in}
 use Rattle.hack_planner.specs.declared.package_rules.PackageRules.{PackageRules}
 use Rattle.hack_words.specs.declared.cli.args.Args.{Args}
-use Rattle.hack_planner.specs.RulesFor.{Grouped, first_excluded, grouped_fault, own_fault}
+use Rattle.hack_planner.specs.RulesFor.{Grouped, excluded_by, grouped_fault, own_fault}
 
 -- ---- a search for a package among the members
 
@@ -69,19 +69,13 @@ rules-fault cx id p f known fine loaded =
     ∙ ap (λ o. option_or o (option_and_then (grouped_at cx p) (features_at cx id))) fine
     ∙ ap (option_and_then (grouped_at cx p)) loaded
 
--- what is found in the lists of rules that are a record's is what is found in that
-pub found-in : (o : Option Name) (given excluded : List (String Global)) (groups : List Feature) (a args : Args) (rules : PackageRules) (r : PackageRulesRecord) → o ≡ first_excluded (names_of given) (names_of excluded) (groups_of groups)
-    → given ≡ a.features.items → a ≡ args → excluded ≡ rules.exclude_features.items → groups ≡ rules.group_features.items → rules_in rules ≡ r
-    → o ≡ first_excluded (names_of args.features.items) r.exclude_features r.group_features
-found-in o given excluded groups a args rules r found of_args same of_rules in_rules made =
-    found
-    ∙ ap (λ l. first_excluded (names_of l) (names_of excluded) (groups_of groups)) (of_args ∙ ap (λ (b : Args). b.features.items) same)
-    ∙ ap (λ l. first_excluded (names_of args.features.items) (names_of l) (groups_of groups)) of_rules
-    ∙ ap (λ l. first_excluded (names_of args.features.items) (names_of rules.exclude_features.items) (groups_of l)) in_rules
-    ∙ ap (λ (w : PackageRulesRecord). first_excluded (names_of args.features.items) w.exclude_features w.group_features) made
+-- what is found by rules that are a record is what is found by that
+pub found-in : (o : Option Name) (given : List (String Global)) (a args : Args) (rules r : PackageRulesRecord) → o ≡ excluded_by (names_of given) rules → given ≡ a.features.items → a ≡ args → rules ≡ r → o ≡ excluded_by (names_of args.features.items) r
+found-in o given a args rules r found of_args same made =
+    found ∙ ap (λ l. excluded_by (names_of l) rules) (of_args ∙ ap (λ (b : Args). b.features.items) same) ∙ ap (excluded_by (names_of args.features.items)) made
 
--- the fault names the first excluded name of a group
-pub grouped-named : (features : List Name) (pkg name x feature : Name) (r : PackageRulesRecord) → Some x ≡ first_excluded features r.exclude_features r.group_features → name ≡ pkg → feature ≡ x
+-- the fault names what is found
+pub grouped-named : (features : List Name) (pkg name x feature : Name) (r : PackageRulesRecord) → Some x ≡ excluded_by features r → name ≡ pkg → feature ≡ x
     → grouped_fault features pkg r ≡ Some (Grouped name feature)
 grouped-named features pkg name x feature r found named told =
     ap (option_map (Grouped pkg)) (sym found) ∙ ap (λ n. Some (Grouped n x)) (sym named) ∙ ap (λ y. Some (Grouped name y)) (sym told)

@@ -8,7 +8,7 @@ use Rattle.hack_features.specs.declared.tally.Tally.{Tally}
 use Rattle.hack_load.specs.Contexts.{ContextRecord, package_at, features_at}
 use Rattle.hack_load.specs.declared.features.Features.{Features}
 use Rattle.hack_metadata.specs.Records.{PackageRecord}
-use Rattle.hack_planner.specs.ContextMembers.{AreChosen, AreChoiceNotes, IsChoiceFault}
+use Rattle.hack_planner.specs.ContextMembers.{AreChosen, IsChoiceFault}
 use Rattle.hack_versions.specs.declared.version.Version.{Version}
 use Rattle.hack_versions.specs.declared.version.VersionFault.{VersionFault}
 use Rattle.hack_versions.specs.declared.rustup.RangeFault.{RangeFault}
@@ -18,7 +18,7 @@ use Rattle.hack_plan.specs.Inputs.{AreVersions, AreNotices, IsVersionsFault}
 use Rattle.hack_plan.specs.Spans.{AreSpans, AreTiled, versions_of}
 use Rattle.hack_plan.specs.declared.versions.PlanInput.{PlanInput}
 use Rattle.hack_versions.specs.declared.group.VersionGroup.{VersionGroup}
-use Rattle.hack_planner.specs.Calls.{IsInputOf, IsPackageOf, IsCoveredIn, IsUsed, HasBadOwn, HasNoSample, call_of, candidate_notes_at, left_out_notes, rules_at, table_fault, HasTableFault}
+use Rattle.hack_planner.specs.Calls.{AreFirstNotes, IsInputOf, IsPackageOf, IsCoveredIn, IsUsed, HasBadOwn, HasNoSample, call_of, candidate_notes_at, left_out_notes, rules_at, table_fault, HasTableFault}
 use Rattle.hack_planner.specs.RulesFor.{OwnField, WorkspaceField, Grouped}
 use Rattle.hack_plan.specs.Prepared.{ArePrepared, span_of}
 use Rattle.hack_plan.specs.View.{PackageView, PlanView}
@@ -52,7 +52,7 @@ pub record IsPerformable (cx : ContextRecord) (rustup : Name) (latest : Option V
   pub single : Bool
   pub on_packages : List Note
   pub on_range : List Note
-  pub noted : AreChoiceNotes cx single on_packages
+  pub noted : AreFirstNotes cx single on_packages
   pub of_range : AreVersions base.input.range base.input latest groups
   pub ranged : AreNotices base.input.range base.input latest on_range
   pub call : plan.call ≡ call_of cx rustup

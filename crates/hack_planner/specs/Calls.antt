@@ -1,6 +1,6 @@
 -- The input of a plan, from what was loaded.
-use Rattle.std.specs.Prelude.{ℕ, ◌≡◌, ◌↔◌, ◌⊎◌, ◌++◌, List, [], ◌∷◌, Bool, true, false, Option, Some, None, length, Contains, IsSomeAnd, IsTrue, MatchOption, map, option_and_then, option_map, slice_get, string_bytes, if◌then◌else◌}
-use Rattle.std.specs.List.{AllZip, flat_map, range_with_len}
+use Rattle.std.specs.Prelude.{ℕ, ◌≡◌, ◌↔◌, ◌⊎◌, ◌++◌, ◌&&◌, List, [], ◌∷◌, Bool, true, false, Option, Some, None, length, Contains, IsSomeAnd, IsTrue, MatchOption, map, option_and_then, option_map, slice_get, string_bytes, if◌then◌else◌}
+use Rattle.std.specs.List.{AllZip, flat_map, list_all, list_any, range_with_len}
 use Rattle.std.specs.Option.{option_map_or, option_or}
 use Rattle.hack_base.specs.Names.{Name, names_of}
 use Rattle.hack_base.specs.PathTexts.{under_of}
@@ -15,16 +15,17 @@ use Rattle.hack_versions.specs.declared.version.VersionFault.{VersionFault}
 use Rattle.hack_versions.specs.declared.version.VersionRange.{VersionRange}
 use Rattle.hack_versions.specs.declared.group.PackageVersion.{PackageVersion}
 use Rattle.hack_versions.specs.declared.group.VersionGroup.{VersionGroup}
-use Rattle.hack_base.specs.Notes.{Note}
+use Rattle.hack_base.specs.Notes.{Note, warning_note}
 use Rattle.hack_versions.specs.VersionOrder.{strip_patch}
 use Rattle.hack_versions.specs.VersionTexts.{IsVersionText, IsVersionFault}
 use Rattle.hack_versions.specs.VersionUses.{UsesBy}
 use Rattle.hack_rules.specs.declared.uses.behavior.WorkspaceBehavior.TheVariants.{Cargo}
-use Rattle.hack_planner.specs.ContextMembers.{AreChosen}
+use Rattle.hack_planner.specs.ContextMembers.{AreChosen, AreChoiceNotes}
 use Rattle.hack_planner.specs.Candidates.{candidates, candidate_notes}
 use Rattle.hack_planner.specs.Kinds.{AreRuns, AreCovering, AreRunSettings, IsUnsampled, package_choice}
 use Rattle.hack_planner.specs.PackageRules.{PackageRulesRecord, call_rules}
-use Rattle.hack_planner.specs.RulesFor.{TableFault, first_there, grouped_fault, own_fault, rules_for, table_notes, workspace_fault}
+use Rattle.hack_planner.specs.RulesFor.{TableFault, first_there, grouped_fault, has_no_rule, may_have, own_fault, rules_for, table_notes, unknown_names, workspace_fault}
+use Rattle.hack_planner.specs.Texts.{no_rules_text, workspace_text}
 use Rattle.hack_plan.specs.Runs.{Plain}
 use Rattle.hack_plan.specs.Inputs.{IsStepList, slots_of}
 use Rattle.hack_plan.specs.declared.versions.PlanInput.{PlanInput}
@@ -54,6 +55,30 @@ table_fault cx ids = if cx.args.package_rules
 -- this is wrong with the tables of the call
 abbrev pub HasTableFault : ContextRecord → TableFault → Type 0
 HasTableFault cx fault = (ids : List ℕ) × AreChosen cx ids × (table_fault cx ids ≡ Some fault)
+
+-- a member may have the name
+abbrev pub member_may_have : ContextRecord → Name → Bool
+member_may_have cx x = list_any (λ id. option_map_or (λ f. may_have cx.args.include_deps_features f x) (features_at cx id) false)
+    cx.metadata.workspace_members
+
+-- neither the workspace's table nor that of a member has a rule
+abbrev pub have_no_rule : ContextRecord → Bool
+have_no_rule cx = has_no_rule cx.metadata.rules
+    && list_all (λ id. option_map_or (λ p. has_no_rule p.rules) (package_at cx id) true) cx.metadata.workspace_members
+
+-- under `--package-rules` a warning where no table has a rule, else one for each name of the workspace's table that no
+-- member has
+abbrev pub workspace_notes : ContextRecord → List Note
+workspace_notes cx = if cx.args.package_rules
+    then (if have_no_rule cx then warning_note no_rules_text ∷ []
+    else map (λ x. warning_note (workspace_text x)) (unknown_names (member_may_have cx) cx.metadata.rules))
+    else []
+
+-- the notices before those on the features of packages: on the choice of packages, and on the workspace's tables
+pub record AreFirstNotes (cx : ContextRecord) (single : Bool) (notes : List Note) : Type 0 where
+  pub on_choice : List Note
+  pub of_choice : AreChoiceNotes cx single on_choice
+  pub told : notes ≡ on_choice ++ workspace_notes cx
 
 -- the path of a package's manifest as a command is given it; none where commands get none
 abbrev pub given_path : Bool → Name → Option PackageRecord → Option Name

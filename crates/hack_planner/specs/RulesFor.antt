@@ -1,8 +1,8 @@
 -- What a package's rules are under `--package-rules`: the call's, those of the package's own table
 -- and those of the workspace's.
-use Rattle.std.specs.Prelude.{◌==◌, ◌++◌, ◌&&◌, ◌||◌, [], ◌∷◌, ℕ, List, Bool, not, Option, None, Some, Ok, Err, filter, flat_map, fold, length, map, option_map, unwrap_or, if◌then◌else◌}
+use Rattle.std.specs.Prelude.{◌==◌, ◌++◌, ◌&&◌, ◌||◌, [], ◌∷◌, ℕ, List, Bool, false, not, Option, None, Some, Ok, Err, filter, flat_map, fold, length, map, option_map, unwrap_or, if◌then◌else◌}
 use Rattle.std.specs.List.{find, list_all, list_any}
-use Rattle.std.specs.Option.{option_or}
+use Rattle.std.specs.Option.{is_some, option_or}
 use Rattle.std.specs.Result.{result_err}
 use Rattle.hack_base.specs.FieldReadings.{FieldReading}
 use Rattle.hack_base.specs.Names.{Name}
@@ -102,17 +102,23 @@ each_once names = fold kept_once [] names
 abbrev pub may_have : Bool → Features → Name → Bool
 may_have loaded f x = is_found f x || (not loaded && list_any (λ c. c == 47) x)
 
--- a warning for each name of the package's own table that the package doesn't have; `loaded` says
--- whether the features of its dependencies are known
-abbrev pub own_table_notes : Bool → FieldReading RulesRecord → Name → Features → List Note
-own_table_notes loaded (Ok t) pkg f = map (λ x. warning_note (table_text pkg x))
-    (filter (λ x. not (may_have loaded f x)) (each_once (names_of_table t)))
-own_table_notes loaded (Err field) pkg f = []
+-- the names of a table that nobody has
+abbrev pub unknown_names : (Name → Bool) → FieldReading RulesRecord → List Name
+unknown_names had (Ok t) = filter (λ x. not (had x)) (each_once (names_of_table t))
+unknown_names had (Err field) = []
 
--- the same, under `--package-rules`
+-- under `--package-rules` a warning for each name of the package's own table that the package doesn't
+-- have
 abbrev pub table_notes : Args → PackageRecord → Features → List Note
 table_notes args p f = if args.package_rules
-    then own_table_notes args.include_deps_features p.rules p.name f else []
+    then map (λ x. warning_note (table_text p.name x)) (unknown_names (may_have args.include_deps_features f) p.rules) else []
+
+-- a table has no rule
+abbrev pub has_no_rule : FieldReading RulesRecord → Bool
+has_no_rule (Ok t) = not (has_some t.exclude_features || has_some t.mutually_exclusive_features || has_some t.at_least_one_of
+    || has_some t.group_features || is_some t.optional_deps || t.exclude_no_default_features || t.exclude_all_features
+    || is_some t.depth || is_some t.strength)
+has_no_rule (Err field) = false
 
 -- ---- faults
 
@@ -122,7 +128,7 @@ first_there [] = None
 first_there (x ∷ xs) = option_or x (first_there xs)
 
 -- what is wrong with tables of rules: a field of the workspace's; of the package of this name a field
--- of its own, or this feature, which is excluded and in a group
+-- of its own, or this feature, which is excluded, and in a group or to be included, as no other one is that isn't excluded
 pub data TableFault : Type 0 where
   WorkspaceField : Name → TableFault
   OwnField : Name → Name → TableFault
@@ -145,7 +151,16 @@ abbrev pub first_excluded : List Name → List Name → List (List Name) → Opt
 first_excluded features excluded groups =
     first_there (map (find (is_excluded features excluded)) groups)
 
--- the fault that these rules of a package exclude a feature of a group
+-- the first name of these groups, where each is excluded
+abbrev pub first_of_excluded : List Name → List Name → List (List Name) → Option Name
+first_of_excluded features excluded groups =
+    if list_all (list_all (is_excluded features excluded)) groups then first_excluded features excluded groups else None
+
+-- the first excluded name of a group, else of the features to include, where each of them is excluded, by these rules
+abbrev pub excluded_by : List Name → PackageRulesRecord → Option Name
+excluded_by features r = option_or (first_excluded features r.exclude_features r.group_features)
+    (first_of_excluded features r.exclude_features r.include_features)
+
+-- the fault that these rules of a package exclude a feature that is in a group, or all features that are to be included
 abbrev pub grouped_fault : List Name → Name → PackageRulesRecord → Option TableFault
-grouped_fault features pkg r =
-    option_map (Grouped pkg) (first_excluded features r.exclude_features r.group_features)
+grouped_fault features pkg r = option_map (Grouped pkg) (excluded_by features r)

@@ -25,6 +25,14 @@ dependency_text pkg name = codes "specified optional dependency `" ++ (name ++ (
 abbrev pub table_text : Name → Name → List ℕ
 table_text pkg name = codes "feature `" ++ (name ++ (codes "` of [package.metadata.cargo-hack] not found in package `" ++ (pkg ++ codes "`")))
 
+-- about a name of the workspace's table that no member has
+abbrev pub workspace_text : Name → List ℕ
+workspace_text name = codes "feature `" ++ (name ++ codes "` of [workspace.metadata.cargo-hack] not found in any member")
+
+-- about tables that say nothing
+abbrev pub no_rules_text : List ℕ
+no_rules_text = codes "--package-rules found no rule: neither [workspace.metadata.cargo-hack] nor [package.metadata.cargo-hack] of a member has one"
+
 -- about a group that isn't applied to the package
 abbrev pub group_text : Name → List Name → List ℕ
 group_text pkg names = codes "skipped applying group `" ++ (join_with_byte 44 names ++ (codes "` to " ++ pkg))

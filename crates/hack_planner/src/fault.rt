@@ -31,7 +31,7 @@ pub enum PlanFault {
     WorkspaceRules(String),
     /// A feature of a chosen package is excluded and grouped at once: `--package-rules` takes the
     /// lists of the call and of the tables together.
-    #[error("feature `{feature}` of package `{name}` is both in exclude-features and in group-features")]
+    #[error("feature `{feature}` of package `{name}` is excluded, and also in a group or in --include-features")]
     ExcludedInGroup { feature: String, name: String },
     /// The `rust-version` of a chosen package isn't a version.
     #[error("{0}")]

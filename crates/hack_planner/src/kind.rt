@@ -85,50 +85,6 @@ impl Kind {
             Kind::Powerset { runs, .. } => runs.run(rank, positions),
         }
     }
-
-    /// The names that a run of these positions has after `--features`; a group gives each of its
-    /// names.
-    pub fn names<'a>(
-        &'a self,
-        alloc: Global,
-        positions: &[usize],
-    ) -> Result<Vec<&'a str>, AllocError>
-        ensures { IfOk result (λ names. names_behind names.items
-            ≡ candidate_names_at (candidates_in self.now) positions.now) }
-    {
-        let candidates = self.candidates();
-        let mut names = Vec::new(alloc);
-        for p in positions {
-            push_names(&mut names, candidates, *p)?;
-        }
-        Ok(names)
-    }
-}
-
-/// Adds the names of the candidate at the position.
-fn push_names<'a>(
-    names: &mut Vec<&'a str>,
-    candidates: &'a [Feature],
-    p: usize,
-) -> Result<(), AllocError>
-    ensures { OnOk result (names_behind names.new.items
-        ≡ names_behind names.old.items ++ slice_index_or (groups_of candidates.now) p []) }
-{
-    match candidates.get(p) {
-        Some(feature) => push_all(names, feature.as_group()),
-        None => Ok(()),
-    }
-}
-
-/// Adds the names.
-fn push_all<'a>(names: &mut Vec<&'a str>, more: &'a [String]) -> Result<(), AllocError>
-    ensures { OnOk result (names_behind names.new.items ≡ names_behind names.old.items
-        ++ names_of more.now) }
-{
-    for name in more {
-        names.push(name.as_str())?;
-    }
-    Ok(())
 }
 
 /// The runs of a package.
@@ -225,37 +181,4 @@ pub(crate) fn runs_by(
         feature_count,
         settings,
     })
-}
-
-/// Returns the runs of a package by the call alone, without the tables of manifests, and the notices
-/// about its features. `single` says whether it is
-/// the only package that is left after exclusions.
-pub fn determine_runs(
-    alloc: Global,
-    args: &Args,
-    id: PackageId,
-    pkg: &Package,
-    features: &Features,
-    single: bool,
-) -> Result<(PackageRuns, Vec<Notice>), RunsFault>
-    ensures id { IfOk result (λ answer. answer.0.id ≡ id) }
-    ensures made { IfOk result (λ answer.
-        AreRunsBy (call_rules args.now (package_view pkg.now).name) (package_view pkg.now)
-        features.now answer.0.kind (rows_of answer.0.settings.items)) }
-    ensures notices { IfOk result (λ answer. map note_of answer.1.items
-        ≡ candidate_notes single (call_rules args.now (package_view pkg.now).name)
-        (call_rules args.now (package_view pkg.now).name)
-        (package_view pkg.now).name features.now) }
-
-    // The only error besides out of memory is a sample that needs too many questions.
-    ensures err { IfErr result (λ e. (e ≡ RunsFault.Memory)
-        ⊎ IsRunsFault (call_rules args.now (package_view pkg.now).name)
-        (package_view pkg.now) features.now e) }
-{
-    let asked = PackageRules::of_call(alloc, args, pkg)?;
-    let notices = notes_on(alloc, args, &asked, pkg, features, single)?;
-    match runs_by(alloc, &asked, id, pkg, features) {
-        Ok(made) => Ok((made, notices)),
-        Err(fault) => Err(fault),
-    }
 }

@@ -5,7 +5,7 @@ ghost use Rattle.std.specs.List.{join_with_byte};
 ghost use Rattle.hack_base.specs.Names.{names_of};
 ghost use Rattle.hack_planner.specs.Texts.{exclusion_text, lift_text};
 ghost use Rattle.hack_planner.specs.Texts.{feature_text, dependency_text, table_text};
-ghost use Rattle.hack_planner.specs.Texts.{group_text, private_text, name_verbose};
+ghost use Rattle.hack_planner.specs.Texts.{group_text, private_text, name_verbose, workspace_text};
 ghost use Rattle.hack_metadata.specs.RecordViews.{package_view};
 
 use hack_base::paths::parent;
@@ -47,6 +47,13 @@ pub(crate) fn table_text(alloc: Global, name: &str, pkg: &str) -> Result<String,
     format!(in alloc;
         "feature `{name}` of [package.metadata.cargo-hack] not found in package `{pkg}`"
     )
+}
+
+/// The text about a name of the workspace's table that no member has.
+pub(crate) fn workspace_text(alloc: Global, name: &str) -> Result<String, AllocError>
+    ensures { IfOk result (λ text. string_bytes text ≡ workspace_text name.now) }
+{
+    format!(in alloc; "feature `{name}` of [workspace.metadata.cargo-hack] not found in any member")
 }
 
 /// The names, joined by commas.

@@ -203,7 +203,8 @@ fn leaves_all(table: &RulesTable) -> bool
     table.exclude_all_features || has_names(&table.exclude_features)
 }
 
-fn has_names(names: &[String]) -> bool
+/// Whether there is a name.
+pub(crate) fn has_names(names: &[String]) -> bool
     ensures { result ≡ has_some (names_of names.now) }
 {
     !names.is_empty()

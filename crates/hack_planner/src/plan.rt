@@ -1,16 +1,16 @@
 //! The plan of a call: what is run, in order, given what was loaded.
 
-ghost use Rattle.std.specs.Prelude.{◌≡◌, ◌≢◌, ◌⊎◌, All, Contains, IfOk, IfErr, IfSome, IsSome, map};
+ghost use Rattle.std.specs.Prelude.{◌≡◌, ◌≢◌, ◌⊎◌, ◌++◌, All, Contains, IfOk, IfErr, IfSome, IsSome, map};
 ghost use Rattle.std.specs.Prelude.{List, ℕ, None, true};
 ghost use Rattle.hack_metadata.specs.RecordViews.{place_at};
 ghost use Rattle.hack_load.specs.ContextView.{context_view};
-ghost use Rattle.hack_planner.specs.ContextMembers.{AreChosen, AreChoiceNotes, IsChoiceFault};
+ghost use Rattle.hack_planner.specs.ContextMembers.{AreChosen, IsChoiceFault};
 ghost use Rattle.hack_base.specs.Notes.{note_of};
 ghost use Rattle.hack_versions.specs.RangeSteps.{NeedsStable};
 ghost use Rattle.hack_rules.specs.declared.uses.behavior.WorkspaceBehavior.TheVariants.{Cargo};
 ghost use Rattle.hack_plan.specs.Inputs.{AreVersionsOf, AreNotices, IsVersionsFault};
 ghost use Rattle.hack_plan.specs.View.{call_view};
-ghost use Rattle.hack_planner.specs.Calls.{call_of, table_fault};
+ghost use Rattle.hack_planner.specs.Calls.{AreFirstNotes, call_of, table_fault, workspace_notes};
 ghost use Rattle.hack_planner.specs.CoveredSets.{AreCovered};
 ghost use Rattle.hack_planner.specs.CallPlan.{IsPlan, IsCause, IsPlanOf, IsCauseOf, latest_of};
 ghost use Rattle.hack_planner.specs.CallPlan.{IsPackagesCause, IsSureCause, IsSureCauseOf};
@@ -25,7 +25,7 @@ use crate::input::input;
 use crate::packages::PackageList;
 use crate::plan_notes::left_out;
 use crate::stable::Stable;
-use crate::tables::check_tables;
+use crate::tables::{check_tables, workspace_notes};
 use crate::uses::with_uses;
 use crate::words::call_words;
 use hack_base::notice::Notice;
@@ -35,7 +35,7 @@ pub use hack_plan::plan::Plan;
 use hack_plan::versions::{PlanInput, Versions};
 use hack_versions::rustup::RangeFault;
 use hack_versions::version::Version;
-use std::alloc::Global;
+use std::alloc::{AllocError, Global};
 
 /// The plan of a call, and its notices. `rustup` is the program to run as rustup. `stable` is asked
 /// for where the range needs it.
@@ -145,7 +145,7 @@ fn plan_by(
 pub fn chosen_list(alloc: Global, cx: &Context) -> Result<(PackageList, Vec<Notice>), PlanFault>
     ensures ok { IfOk result (λ answer. AreChosen (context_view cx.now)
         (map place_at answer.0.ids.items)) }
-    ensures notes { IfOk result (λ answer. AreChoiceNotes (context_view cx.now)
+    ensures notes { IfOk result (λ answer. AreFirstNotes (context_view cx.now)
         answer.0.is_single (map note_of answer.1.items)) }
     ensures members { IfOk result (λ answer.
         All (λ id. Contains (context_view cx.now).metadata.workspace_members id.index)
@@ -159,11 +159,27 @@ pub fn chosen_list(alloc: Global, cx: &Context) -> Result<(PackageList, Vec<Noti
 {
     match determine_package_list(alloc, cx) {
         Ok(answer) => match check_tables(alloc, cx, answer.0.ids.as_slice()) {
-            Ok(()) => Ok(answer),
+            Ok(()) => Ok(with_workspace_notes(alloc, cx, answer)?),
             Err(fault) => Err(fault),
         },
         Err(fault) => Err(of_packages(fault)),
     }
+}
+
+/// The packages, and the notices with those on the workspace's tables behind them.
+fn with_workspace_notes(
+    alloc: Global,
+    cx: &Context,
+    answer: (PackageList, Vec<Notice>),
+) -> Result<(PackageList, Vec<Notice>), AllocError>
+    ensures list { IfOk result (λ made. made.0 ≡ answer.0) }
+    ensures notes { IfOk result (λ made. map note_of made.1.items
+        ≡ map note_of answer.1.items ++ workspace_notes (context_view cx.now)) }
+{
+    let (list, mut notices) = answer;
+    let mut on_tables = workspace_notes(alloc, cx)?;
+    notices.append(&mut on_tables)?;
+    Ok((list, notices))
 }
 
 /// The versions of an input.

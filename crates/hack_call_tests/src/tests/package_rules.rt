@@ -215,11 +215,13 @@ fn names_not_found(rt: HostRuntime) -> Result<(), Wrong> {
             | `cargo check --no-default-features` on p
             | `cargo check --no-default-features --features a` on p
 
-            # Of several packages, and for all versions of a range, once each; of the workspace's table none.
+            # Of several packages, and for all versions of a range, once each; of the workspace's table before them those
+            # that no member has.
             > members p - a b # {"exclude-features":["b","x"],"optional-deps":["y"]};q - a c # {"exclude-features":["c","b"]};r - d # {"exclude-features":["z"]} ## {"exclude-features":["a","z"]} $ check -p p -p q --each-feature --package-rules
             | 2
             | `cargo check --no-default-features` on p
             | `cargo check --no-default-features` on q
+            | warning: feature `z` of [workspace.metadata.cargo-hack] not found in any member
             | warning: feature `x` of [package.metadata.cargo-hack] not found in package `p`
             | warning: feature `y` of [package.metadata.cargo-hack] not found in package `p`
             | warning: feature `b` of [package.metadata.cargo-hack] not found in package `q`
@@ -242,6 +244,33 @@ fn names_not_found(rt: HostRuntime) -> Result<(), Wrong> {
             | powerset 4 N a b x,y
             | warning: feature `x` of [package.metadata.cargo-hack] not found in package `p`
             | warning: feature `y` of [package.metadata.cargo-hack] not found in package `p`
+        "#,
+    )
+}
+
+/// Tables that say nothing, as where none is there, are told, and no name of the workspace's table that a member has, or that
+/// is a dependency's where these aren't loaded.
+#[test]
+fn tables_without_a_rule(rt: HostRuntime) -> Result<(), Wrong> {
+    on(
+        rt.alloc(),
+        Show::Runs,
+        "p - a",
+        r#"
+            > members p - a;q - b # {"exclude-features":[],"optional-deps":false,"exclude-all-features":false} ## {"at-least-one-of":[]} $ check -p p --each-feature --package-rules
+            | 2
+            | `cargo check --no-default-features` on p
+            | `cargo check --no-default-features --features a` on p
+            | warning: --package-rules found no rule: neither [workspace.metadata.cargo-hack] nor [package.metadata.cargo-hack] of a member has one
+            > members p - a;q - b # {"depth":0} $ check -p p --each-feature --package-rules
+            | 2
+            | `cargo check --no-default-features` on p
+            | `cargo check --no-default-features --features a` on p
+            > members p - a;q - b ## {"exclude-features":["b","d/x","bb"]} $ check -p p --each-feature --package-rules
+            | 2
+            | `cargo check --no-default-features` on p
+            | `cargo check --no-default-features --features a` on p
+            | warning: feature `bb` of [workspace.metadata.cargo-hack] not found in any member
         "#,
     )
 }
@@ -380,45 +409,45 @@ fn excluded_in_groups(rt: HostRuntime) -> Result<(), Wrong> {
         "p - a",
         r#"
             > members p - a b # {"exclude-features":["b"],"group-features":[["a","b"]]} $ check --feature-powerset --package-rules
-            | feature `b` of package `p` is both in exclude-features and in group-features
+            | feature `b` of package `p` is excluded, and also in a group or in --include-features
             > members p - a b # {"group-features":[["a","b"]]} $ check --feature-powerset --package-rules --exclude-features a
-            | feature `a` of package `p` is both in exclude-features and in group-features
+            | feature `a` of package `p` is excluded, and also in a group or in --include-features
             > members p - a b # {"exclude-features":["a"]} $ check --feature-powerset --package-rules --group-features a,b
-            | feature `a` of package `p` is both in exclude-features and in group-features
+            | feature `a` of package `p` is excluded, and also in a group or in --include-features
             > members p - a b # {"exclude-features":["b"]} ## {"group-features":[["a","b"]]} $ check --feature-powerset --package-rules
-            | feature `b` of package `p` is both in exclude-features and in group-features
+            | feature `b` of package `p` is excluded, and also in a group or in --include-features
             > members p - a b # {"group-features":[["a","b"]]} ## {"exclude-features":["b"]} $ check --feature-powerset --package-rules
-            | feature `b` of package `p` is both in exclude-features and in group-features
+            | feature `b` of package `p` is excluded, and also in a group or in --include-features
             > members p - a b ## {"exclude-features":["a"],"group-features":[["a","b"]]} $ check --feature-powerset --package-rules
-            | feature `a` of package `p` is both in exclude-features and in group-features
+            | feature `a` of package `p` is excluded, and also in a group or in --include-features
             > members p - a b ## {"group-features":[["a","b"]]} $ check --feature-powerset --package-rules --skip b
-            | feature `b` of package `p` is both in exclude-features and in group-features
+            | feature `b` of package `p` is excluded, and also in a group or in --include-features
             > members p - a # {"exclude-features":["x"],"group-features":[["a","x"]]} $ check --feature-powerset --package-rules
-            | feature `x` of package `p` is both in exclude-features and in group-features
+            | feature `x` of package `p` is excluded, and also in a group or in --include-features
 
             # The first name of the first group: the call's groups, then those of the package, then the workspace's.
             > members p - a b c d # {"exclude-features":["d","c","b"],"group-features":[["a","c"],["b","d"]]} $ check --feature-powerset --package-rules
-            | feature `c` of package `p` is both in exclude-features and in group-features
+            | feature `c` of package `p` is excluded, and also in a group or in --include-features
             > members p - a b c d # {"exclude-features":["d","b"],"group-features":[["a","c"],["b","d"]]} $ check --feature-powerset --package-rules
-            | feature `b` of package `p` is both in exclude-features and in group-features
+            | feature `b` of package `p` is excluded, and also in a group or in --include-features
             > members p - a b c d # {"exclude-features":["a","d"],"group-features":[["a","b"]]} $ check --feature-powerset --package-rules --group-features c,d
-            | feature `d` of package `p` is both in exclude-features and in group-features
+            | feature `d` of package `p` is excluded, and also in a group or in --include-features
             > members p - a b c d # {"exclude-features":["a","d"],"group-features":[["c","d"]]} ## {"group-features":[["a","b"]]} $ check --feature-powerset --package-rules
-            | feature `d` of package `p` is both in exclude-features and in group-features
+            | feature `d` of package `p` is excluded, and also in a group or in --include-features
 
             # Package by package, behind a field of its own table, and behind the workspace's.
             > members p - a b # {"exclude-features":["a"],"group-features":[["a","b"]]};q - a # {"depth":"2"} $ check --feature-powerset --package-rules --workspace
-            | feature `a` of package `p` is both in exclude-features and in group-features
+            | feature `a` of package `p` is excluded, and also in a group or in --include-features
             > members p - a # {"depth":"2"};q - a b # {"exclude-features":["a"],"group-features":[["a","b"]]} $ check --feature-powerset --package-rules --workspace
             | failed to parse `depth` field from [package.metadata.cargo-hack] of package `p`
             > members p - a # {"depth":2};q - a b # {"exclude-features":["a"],"group-features":[["a","b"]]} $ check --feature-powerset --package-rules --workspace
-            | feature `a` of package `q` is both in exclude-features and in group-features
+            | feature `a` of package `q` is excluded, and also in a group or in --include-features
             > members p - a b # {"exclude-features":["a"],"group-features":[["a","b"]],"depth":"2"} $ check --feature-powerset --package-rules
             | failed to parse `depth` field from [package.metadata.cargo-hack] of package `p`
             > members p - a b # {"exclude-features":["a"],"group-features":[["a","b"]]} ## {"strength":0} $ check --feature-powerset --package-rules
             | failed to parse `strength` field from [workspace.metadata.cargo-hack]
             > members p 1.x a b # {"exclude-features":["a"],"group-features":[["a","b"]]} $ check --feature-powerset --package-rules --version-range 1.60..=1.62
-            | feature `a` of package `p` is both in exclude-features and in group-features
+            | feature `a` of package `p` is excluded, and also in a group or in --include-features
 
             > members p - a;q - a b # {"exclude-features":["a"],"group-features":[["a","b"]]} $ check --feature-powerset --package-rules -p p
             | a plan
@@ -429,6 +458,18 @@ fn excluded_in_groups(rt: HostRuntime) -> Result<(), Wrong> {
             > members p - a b ## {"exclude-features":["a"],"group-features":[["a","x"]]} $ check --feature-powerset --package-rules
             | a plan
             > members p - a b c # {"exclude-features":["c"],"group-features":[["a","b"]]} $ check --feature-powerset --package-rules
+            | a plan
+
+            # So it is where all features that are to be included are excluded.
+            > members p - a b # {"exclude-features":["b","a"]} $ check --each-feature --package-rules --include-features a,b
+            | feature `a` of package `p` is excluded, and also in a group or in --include-features
+            > members p - a b ## {"exclude-features":["a"]} $ check --feature-powerset --package-rules --include-features a
+            | feature `a` of package `p` is excluded, and also in a group or in --include-features
+            > members p - a b # {"exclude-features":["a"]} $ check --feature-powerset --package-rules --include-features b,a
+            | a plan
+            > members p - a b # {"exclude-features":["a"]} $ check --feature-powerset --package-rules
+            | a plan
+            > members p - a b # {"exclude-features":["a"]} $ check --feature-powerset --package-rules --include-features a,b --features a
             | a plan
 
             # Features of every run are in no set either, and not excluded.

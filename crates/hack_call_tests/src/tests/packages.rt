@@ -69,23 +69,22 @@ fn kind_name(kind: &Kind) -> &'static str {
 }
 
 /// Appends the features of a run to the text, separated by commas.
-fn push_features(
-    text: &mut String,
-    alloc: Global,
-    kind: &Kind,
-    positions: &[usize],
-) -> Result<(), AllocError> {
-    let names = kind.names(alloc, positions)?;
-    for (place, name) in names.iter().enumerate() {
-        text.push_str(if place == 0 { " " } else { "," })?;
-        text.push_str(name)?;
+fn push_features(text: &mut String, kind: &Kind, positions: &[usize]) -> Result<(), AllocError> {
+    let mut separator = " ";
+    for p in positions {
+        if let Some(feature) = kind.candidates().get(*p) {
+            for name in feature.as_group() {
+                text.push_str(separator)?;
+                text.push_str(name.as_str())?;
+                separator = ",";
+            }
+        }
     }
     Ok(())
 }
 
 fn push_run(
     text: &mut String,
-    alloc: Global,
     kind: &Kind,
     run: Run,
     positions: &[usize],
@@ -94,7 +93,7 @@ fn push_run(
         Run::Plain => text.push_str(" -"),
         Run::AllFeatures => text.push_str(" A"),
         Run::NoDefaultFeatures => text.push_str(" N"),
-        Run::Features => push_features(text, alloc, kind, positions),
+        Run::Features => push_features(text, kind, positions),
     }
 }
 
@@ -106,7 +105,7 @@ fn push_runs(text: &mut String, alloc: Global, runs: &PackageRuns) -> Result<(),
     let mut positions = Vec::new(alloc);
     for rank in 0..runs.kind.count() {
         let run = runs.kind.run(rank, &mut positions)?;
-        push_run(text, alloc, &runs.kind, run, positions.as_slice())?;
+        push_run(text, &runs.kind, run, positions.as_slice())?;
     }
     Ok(())
 }

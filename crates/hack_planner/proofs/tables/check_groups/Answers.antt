@@ -12,7 +12,7 @@ returns-in-Some-clause-err c =
     let cx = context_view c.args.cx.now in
     let p = package_view c.args.pkg.now in
     let r = rules_at cx p c.args.features.now in
-    let found = found-in (Some c.in-Some.feature.now) c.deref.result.now c.deref-2.result.now c.deref-3.result.now c.args-2.result.now cx.args c.in_ok-rules.rules r c.in-Some.ensures c.deref.ensures.value c.args-2.ensures c.deref-2.ensures.value c.deref-3.ensures.value c.in_ok-rules.ensures.rules in
+    let found = found-in (Some c.in-Some.feature.now) c.deref.result.now c.args-2.result.now cx.args _ r c.in-Some.ensures c.deref.ensures.value c.args-2.ensures c.in_ok-rules.ensures.rules in
     inr (grouped-named (names_of cx.args.features.items) p.name _ _ _ r found (c.in_ok-from_str-in-Some-2.ensures.ok ∙ c.as_str.ensures.value) c.in_ok-from_str-in-Some.ensures.ok)
 
 pub returns-clause-ok : goal.returns-clause-ok
@@ -20,5 +20,5 @@ returns-clause-ok c =
     let cx = context_view c.args.cx.now in
     let p = package_view c.args.pkg.now in
     let r = rules_at cx p c.args.features.now in
-    let found = found-in None c.deref.result.now c.deref-2.result.now c.deref-3.result.now c.args-2.result.now cx.args c.in_ok-rules.rules r c.in-None.ensures c.deref.ensures.value c.args-2.ensures c.deref-2.ensures.value c.deref-3.ensures.value c.in_ok-rules.ensures.rules in
+    let found = found-in None c.deref.result.now c.args-2.result.now cx.args _ r c.in-None.ensures c.deref.ensures.value c.args-2.ensures c.in_ok-rules.ensures.rules in
     ap (option_map (Grouped p.name)) (sym found)
