@@ -8,8 +8,6 @@ use Rattle.std.proofs.lemmas.List.{length-map}
 use Rattle.std.proofs.lemmas.Option.{slice_get_past, slice_get-map}
 use Rattle.hack_base.proofs.Members.{Contains-head, Contains-tail}
 use Rattle.hack_base.specs.Names.{Name, names_of}
-use Rattle.hack_features.specs.Feature.{groups_of}
-use Rattle.hack_features.specs.declared.feature.Feature.{Feature}
 use Rattle.hack_load.specs.Contexts.{ContextRecord, features_at, package_at, place_among}
 use Rattle.hack_load.specs.declared.features.Features.{Features}
 use Rattle.hack_metadata.specs.MetadataView.{metadata_view}
@@ -19,8 +17,7 @@ use Rattle.hack_metadata.specs.declared.metadata.Metadata.{Metadata}
 use Rattle.hack_metadata.specs.declared.metadata.package.Package.{Package}
 use Rattle.hack_metadata.specs.declared.metadata.resolve.PackageId.{PackageId}
 use Rattle.hack_planner.specs.Calls.{grouped_at, own_fault_at}
-use Rattle.hack_planner.specs.PackageRules.{PackageRulesRecord, rules_in}
-use Rattle.hack_planner.specs.declared.package_rules.PackageRules.{PackageRules}
+use Rattle.hack_planner.specs.PackageRules.{PackageRulesRecord}
 use Rattle.hack_words.specs.declared.cli.args.Args.{Args}
 use Rattle.hack_planner.specs.RulesFor.{Grouped, excluded_by, grouped_fault, own_fault}
 
