@@ -242,7 +242,10 @@ def cargo_hack_page(found):
             " manifest. Where a call ends early, its guard, a shell, restores them at once. Where that can't act, as after"
             " the machine stopped, the next call does, or `cargo hack --restore`.",
         ])])),
-        ("EXIT STATUS", [roff("0, or 1 after an error, as a conflict is one that was found. A warning counts as an error where CARGO_HACK_DENY_WARNINGS is set to anything. A signal ends the call as such: 128 and its number, in a shell.")]),
+        ("EXIT STATUS", [
+            roff("0, or 1 after an error, as a conflict is one that was found. A warning counts as an error where"),
+            roff("CARGO_HACK_DENY_WARNINGS is set to anything. A signal ends the call as such: 128 and its number, in a shell."),
+        ]),
         ("EXAMPLES", items([
             ("\\fBcargo hack check \\-\\-each\\-feature \\-\\-workspace\\fP", ["Check each feature of each package alone."]),
             ("\\fBcargo hack test \\-\\-feature\\-powerset \\-\\-depth 2\\fP", ["Test each set of at most two features."]),
