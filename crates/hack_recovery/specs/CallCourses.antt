@@ -8,7 +8,7 @@ use Rattle.hack_files.specs.Files.{Contents, KeepsAll, KeepsAllBut, KeepsOthers,
 use Rattle.hack_journal.specs.LockfilesApart.{KeepsOtherFiles}
 use Rattle.hack_journal.specs.Refusing.{AreJust, HoldsByKind, IsRefused, IsRefusedOrUnkept, IsUnseen}
 use Rattle.hack_journal.specs.Rows.{Spot}
-use Rattle.hack_journal.specs.SafeFiles.{StaysSafe}
+use Rattle.hack_journal.specs.SafeFiles.{StaysSafe, without}
 use Rattle.hack_journal.specs.declared.unkept.Unkept.{Ghosts as Noting}
 use Rattle.hack_journaled.specs.Journals.{BetweenBoth, IsAccounted, IsWhyItStays, OnlyEndFailed, contents_seen, files_seen, world_seen}
 use Rattle.hack_run.specs.CallChanges.{IsChangeTrace}
@@ -174,7 +174,7 @@ pub record Journals {F L U J : Type 0} (f : Filing F) (l : Filing L) (u : Noting
       (contents_seen spot.journal old.files.held old.lockfiles.held) (contents_seen spot.journal new.files.held new.lockfiles.held)
   pub number : IsAccounted old.files.failed new.files.failed old.lockfiles.failed new.lockfiles.failed old.unkept new.unkept failed
   pub gone : RestoresEdits env words → f.tells → f.whole → l.tells → failed ≡ 0 → old.files.held spot.journal ≡ None → new.files.held spot.journal ≡ None
-  pub ended : f.tells → f.whole → l.tells → KeepsAll (contents_seen spot.journal old.files.held old.lockfiles.held) (contents_seen spot.journal new.files.held new.lockfiles.held)
+  pub ended : f.tells → f.whole → KeepsOtherFiles (without spot.journal old.files.held) (without spot.journal new.files.held)
       → old.files.held spot.journal ≡ None → (new.files.held spot.journal ≡ None) ⊎ IsWhyItStays f spot old.files.held new.files.held
   pub safe : f.tells → f.whole → old.files.held spot.journal ≡ None → StaysSafe spot old.files.held old.files.trace new.files.trace old.files.held new.files.held
   pub others : l.tells → KeepsOtherFiles old.lockfiles.held new.lockfiles.held

@@ -6,11 +6,11 @@ use Rattle.hack_base.specs.Names.{Name}
 use Rattle.hack_base.specs.Streams.{Stream}
 use Rattle.hack_files.specs.Files.{Contents, KeepsAll, KeepsOthers, Makes, MakesOrNot, puts, removes}
 use Rattle.hack_files.specs.declared.fs.Files.{Ghosts as Filing}
-use Rattle.hack_journal.specs.Recovery.{CountsRecoverFault, IsJournalOrItsEntry, IsJournalRefusal, IsReached, IsRestored, IsWhy, IsWhyUnread, SparesOthers}
+use Rattle.hack_journal.specs.Recovery.{ComesNearer, CountsRecoverFault, IsJournalOrItsEntry, IsJournalRefusal, IsReached, IsRestored, IsWhy, IsWhyUnread, SparesOthers}
 use Rattle.hack_journal.specs.Refusing.{IsRefused, IsUnseen}
 use Rattle.hack_journal.specs.Rows.{Spot}
 use Rattle.hack_journal.specs.CutFiles.{IsSafeOrCut, StaysSafeOrCut}
-use Rattle.hack_journal.specs.SafeFiles.{IsSafe, StaysSafe}
+use Rattle.hack_journal.specs.SafeFiles.{AfterEachFront, IsSafe, StaysSafe}
 use Rattle.hack_journal.specs.Strangers.{NamesNone, NamesStranger}
 use Rattle.hack_journal.specs.declared.recover.RecoverFault.{RecoverFault}
 use Rattle.hack_journal.specs.declared.recover.RecoverFault.TheVariants as unrecovered
@@ -34,12 +34,17 @@ use Rattle.hack_recovery.specs.declared.fault.CallFault.TheVariants.{Memory, Bus
 abbrev pub IsStill : Type 0 → Type 0 → Spot → FilesView → FilesView → Type 0
 IsStill tells whole spot old new = tells → whole → old.held spot.journal ≡ None → Makes [] old.trace new.trace old.held new.held
 
+-- after every front of the changes, each path beside it holds what it held, or what it held at first
+abbrev pub StaysNearer : Type 0 → Type 0 → Spot → FilesView → FilesView → Type 0
+StaysNearer tells whole spot old new = tells → whole → AfterEachFront (ComesNearer spot old.held) old.trace new.trace old.held new.held
+
 -- what it keeps was brought back, also where a write was cut: these paths held something else, and the
 -- journal is gone
 pub record Recovers (tells whole : Type 0) (spot : Spot) (paths : List Name) (old new : FilesView) : Type 0 where
   pub failures : GrowsBy 0 old.failed new.failed
   pub restored : tells → IsRestored spot paths old.held new.held
   pub still : IsStill tells whole spot old new
+  pub nearer : StaysNearer tells whole spot old new
   pub comes_back : tells → (first : Contents) → IsSafeOrCut spot first old.held → KeepsAll first new.held
   pub safe : tells → whole → (first : Contents) → IsSafe spot first old.held → StaysSafe spot first old.trace new.trace old.held new.held
   pub safe_after_cut : tells → whole → (first : Contents) → IsSafeOrCut spot first old.held → StaysSafeOrCut spot first old.trace new.trace old.held new.held
@@ -53,6 +58,7 @@ pub record FailsToRestore {F : Type 0} (f : Filing F) (spot : Spot) (fault : Rec
   pub why : IsWhy spot f.tells old.held fault
   pub still : IsStill f.tells f.whole spot old new
   pub spared : f.tells → SparesOthers spot old.held new.held
+  pub nearer : StaysNearer f.tells f.whole spot old new
   pub refused : IsJournalRefusal fault → f.tells → KeepsAll old.held new.held
   pub never : IsJournalRefusal fault → f.tells → (first : Contents) → ¬ IsSafeOrCut spot first old.held
   pub safe : f.tells → f.whole → (first : Contents) → IsSafe spot first old.held → StaysSafe spot first old.trace new.trace old.held new.held
