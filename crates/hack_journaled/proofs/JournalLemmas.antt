@@ -1,12 +1,13 @@
 -- What a call over files with a journal did, after the journal is removed.
-use Rattle.std.proofs.Common.{◌≡◌, ◌⊎◌, ◌∙◌, ◌+◌, ◌-◌, ◌^◌, min, inl, inr, ap, arith, refl, subst, sym, ℕ, Bool, true, false, List, None, [], ◌∷◌, ◌++◌}
+use Rattle.std.proofs.Common.{◌≡◌, ◌⊎◌, ◌∙◌, ◌+◌, ◌-◌, ◌^◌, min, inl, inr, ap, arith, subst, sym, ℕ, false, List, None, [], ◌∷◌, ◌++◌}
+use Rattle.std.proofs.lemmas.Bool.{cases_Bool, false≢true}
 use Rattle.std.proofs.lemmas.List.{length-append}
 use Rattle.std.proofs.lemmas.List.Elements.{Contains-append_left}
 use Rattle.std.specs.Prelude.{All}
 use Rattle.hack_base.specs.Counters.{GrowsBy}
 use Rattle.hack_files.specs.Files.{Contents, KeepsAll, KeepsAllBut, Makes, Trace, by_kind}
 use Rattle.hack_files.specs.declared.fs.Files.{Ghosts as Filing}
-use Rattle.hack_journal.specs.LockfilesApart.{KeepsLockfiles, apart, is_lockfile}
+use Rattle.hack_journal.specs.LockfilesApart.{KeepsLockfiles, KeepsOtherFiles, apart, is_lockfile}
 use Rattle.hack_journal.specs.FailedCalls.{CannotEnd}
 use Rattle.hack_journal.specs.Journal.{Edit}
 use Rattle.hack_journal.specs.SafeFiles.{AreBack, KeepFirst, trace_besides, without}
@@ -93,18 +94,21 @@ pub none_before : (n m : ℕ) → m ≡ 0 → ((m ≡ n) ⊎ (m ≡ min (n + 1) 
 none_before n m none (inl same) = omega (arith, none, same)
 none_before n m none (inr one) = absurd (omega (arith, none, one))
 
--- a path that isn't set aside for the journal, where the call sees the same, and lockfiles are those of others
-same_path : (j : List ℕ) (first mid before now : Contents) → KeepsAll (apart (without j first) before) (apart (without j mid) now) → KeepsLockfiles (without j first) (without j mid) → (p : List ℕ) → is_of_journal j p ≡ false → mid p ≡ first p
-same_path j first mid before now all locks p ne = sym (without_at j mid p ne) ∙ go (is_lockfile p) refl ∙ without_at j first p ne
+-- where a call sees the same, all paths but lockfiles hold what they held
+pub others_same : (first mid before now : Contents) → KeepsAll (apart first before) (apart mid now) → KeepsOtherFiles first mid
+others_same first mid before now all p other = elim (cases_Bool (is_lockfile p)) [ inl is ↦ absurd (other is) | inr off ↦ rw off at (all p) ]
+
+-- a path that isn't set aside for the journal, where these do, and lockfiles are those of others
+same_path : (j : List ℕ) (first mid : Contents) → KeepsOtherFiles (without j first) (without j mid) → KeepsLockfiles (without j first) (without j mid) → (p : List ℕ) → is_of_journal j p ≡ false → mid p ≡ first p
+same_path j first mid others locks p ne = sym (without_at j mid p ne) ∙ same ∙ without_at j first p ne
   where
-    go : (b : Bool) → is_lockfile p ≡ b → without j mid p ≡ without j first p
-    go true is = locks p is
-    go false is = rw is at (all p)
+    same : without j mid p ≡ without j first p
+    same = elim (cases_Bool (is_lockfile p)) [ inl is ↦ locks p is | inr off ↦ others p (λ is. false≢true (sym off ∙ is)) ]
 
 -- then each entry's path holds what it held at first
-pub entries_back : (j : List ℕ) (first mid before now : Contents) (es more : List Edit) → KeepFirst j first (es ++ more) → KeepsAll (apart (without j first) before) (apart (without j mid) now) → KeepsLockfiles (without j first) (without j mid) → AreBack es mid
-entries_back j first mid before now [] more keeps all locks = tt
-entries_back j first mid before now (e ∷ es) more keeps all locks = (same_path j first mid before now all locks e.path keeps.1 ∙ keeps.0, entries_back j first mid before now es more keeps.3 all locks)
+pub entries_back : (j : List ℕ) (first mid : Contents) (es more : List Edit) → KeepFirst j first (es ++ more) → KeepsOtherFiles (without j first) (without j mid) → KeepsLockfiles (without j first) (without j mid) → AreBack es mid
+entries_back j first mid [] more keeps others locks = tt
+entries_back j first mid (e ∷ es) more keeps others locks = (same_path j first mid others locks e.path keeps.1 ∙ keeps.0, entries_back j first mid es more keeps.3 others locks)
 
 -- a count of calls over two counts, and that over two others, with one that failed at the end
 pub accounted : (f g h l m u v one two last : ℕ) → GrowsWithin f g u v 0 one → GrowsAsBoth 0 one l m 0 two → (k : ℕ) × GrowsBy k g h × GrowsBy k two last → IsAccounted f h l m u v last

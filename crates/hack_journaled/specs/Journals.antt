@@ -69,8 +69,8 @@ pub record IsStuckAtEnd {F : Type 0} (f : Filing F) (spot : Spot) (last : Conten
   pub refused : f.refuses before after (file_at spot.journal place ∷ [])
   pub at_end : IsAtEnd f spot.journal last before after
 
--- why a journal stays where each path holds what it held: one that the end looks at was left unseen, or a file of the
--- journal couldn't be removed
+-- why a journal stays where each path but lockfiles holds what it held: one that the end looks at was left unseen, or a
+-- file of the journal couldn't be removed
 abbrev pub IsWhyItStays : {F : Type 0} → Filing F → Spot → Contents → Contents → Type 0
 IsWhyItStays f spot first last = ((path : List ℕ) × IsUnseenAtEnd f spot first last path) ⊎ IsStuckAtEnd f spot last
 

@@ -138,11 +138,11 @@ pub fn run_journaled<F: Overwrites, L: Files, U: Unkept, C: Starts, O: Sink, E: 
         → F.bytes_at files (string_bytes place.journal) ≡ None
         → F.bytes_at result.1 (string_bytes place.journal) ≡ None }
 
-    // So it is where each path holds what it held, unless a look of the end fails, at the journal or
-    // at a path that it keeps, or a file of the journal can't be removed.
-    ensures ended { F.tells → F.whole → L.tells → KeepsAll
-        (contents_seen (string_bytes place.journal) (F.bytes_at files) (L.bytes_at lockfiles))
-        (contents_seen (string_bytes place.journal) (F.bytes_at result.1) (L.bytes_at result.2))
+    // So it is where each path but lockfiles holds what it held, unless a look of the end fails, at
+    // the journal or at a path that it keeps, or a file of the journal can't be removed.
+    ensures ended { F.tells → F.whole → KeepsOtherFiles
+        (without (string_bytes place.journal) (F.bytes_at files))
+        (without (string_bytes place.journal) (F.bytes_at result.1))
         → F.bytes_at files (string_bytes place.journal) ≡ None
         → (F.bytes_at result.1 (string_bytes place.journal) ≡ None)
         ⊎ IsWhyItStays F.Files (spot_of place) (F.bytes_at files) (F.bytes_at result.1) }

@@ -6,14 +6,14 @@ use Rattle.hack_journal.specs.FailedCalls.{CannotEnd}
 use Rattle.hack_journal.specs.FileCalls.{spot_in}
 use Rattle.hack_journal.proofs.RowLemmas.{apart_from}
 use Rattle.hack_journal.proofs.SafeLemmas.{without_same}
-use Rattle.hack_journal.specs.LockfilesApart.{KeepsLockfiles, apart, is_lockfile}
+use Rattle.hack_journal.specs.LockfilesApart.{KeepsLockfiles, KeepsOtherFiles, apart, is_lockfile}
 use Rattle.hack_journal.specs.Rows.{AreEach, Noted, Spot, spot_of}
 use Rattle.hack_journal.specs.SafeFiles.{trace_besides, without}
 use Rattle.hack_journal.specs.SafeLaws.{stays_join}
 use Rattle.hack_journaled.specs.Journals.{IsAtEnd, IsWhyItStays, contents_seen, files_seen, world_seen}
 use Rattle.hack_files.specs.View.{FilesView, files_view}
 use Rattle.hack_run.specs.Worlds.{host_view}
-use Rattle.hack_journaled.proofs.JournalLemmas.{accounted, edits_between, entries_back, leaves_end, leaves_nothing, none_before, one_at_most, only_end, refused_once, seen_same, spoilt_end, traced_same, why_it_stays}
+use Rattle.hack_journaled.proofs.JournalLemmas.{accounted, edits_between, entries_back, leaves_end, leaves_nothing, none_before, one_at_most, only_end, others_same, refused_once, seen_same, spoilt_end, traced_same, why_it_stays}
 use Rattle.hack_run.proofs.ChangeLemmas.{changes_on}
 use Rattle.hack_run.proofs.TraceLemmas.{call_moved, keeps_same, unended}
 use Rattle.hack_journaled.proofs.journaled.run_journaled.Goals as goal
@@ -131,12 +131,12 @@ returns-clause-gone g c = λ back tells whole lockfiles none absent.
     let left = rw (c.new-files.ensures.files, c.new-files.ensures.lockfiles, c.new-files.ensures.failures, begun, c.new.ensures.files, sym c.failures-known.ensures) at (c.run-status.ensures.back back (tells, lockfiles)) in
     let named : mid.files.notes.journal ≡ j = sym (ap (λ (s : Spot). s.journal) ran.0.0) ∙ begun in
     let all = leaves_nothing _ _ c.failures-known.result (none_before c.failures-known.result c.end_journal-failed.result none (one_at_most _ _ c.end_journal-failed.ensures.failed)) left in
-    let is_back = entries_back j (bytes c.args.files) (bytes mid.files.files) (g.L.Files.bytes_at c.args.lockfiles) (g.L.Files.bytes_at mid.lockfiles) mid.files.notes.entries kept.more
-    (rw begun at kept.keeps) (rw named at all) (rw (c.new.ensures.files, begun, named) at (ran.2 tells)) in
+    let others = others_same (without j (bytes c.args.files)) (without j (bytes mid.files.files)) (g.L.Files.bytes_at c.args.lockfiles) (g.L.Files.bytes_at mid.lockfiles) (rw named at all) in
+    let is_back = entries_back j (bytes c.args.files) (bytes mid.files.files) mid.files.notes.entries kept.more (rw begun at kept.keeps) others (rw (c.new.ensures.files, begun, named) at (ran.2 tells)) in
     rw (c.into_inner-below.ensures.files, sym named) (c.end_journal-failed.ensures.gone none tells is_back)
 
 pub returns-clause-ended : goal.returns-clause-ended
-returns-clause-ended g c = λ tells whole lockfiles same absent.
+returns-clause-ended g c = λ tells whole same absent.
     let first = c.new.result in
     let begun : c.new.result.notes.journal ≡ string_bytes c.args.place.journal = ap (λ (s : Spot). s.journal) c.new.ensures.place in
     let mid = c.run-status.new.files in
@@ -145,10 +145,9 @@ returns-clause-ended g c = λ tells whole lockfiles same absent.
     let ran = rw c.new-files.ensures.files at c.run-status.ensures.stays in
     let kept = (ran.0.1 tells whole (bytes c.args.files) (c.new.ensures.begun absent)).1 in
     let named : mid.files.notes.journal ≡ j = sym (ap (λ (s : Spot). s.journal) ran.0.0) ∙ begun in
-    let all = subst (λ (held : Contents). KeepsAll (contents_seen j (bytes c.args.files) (g.L.Files.bytes_at c.args.lockfiles)) held)
-    (sym (seen_same j mid.files.notes.journal (length mid.files.notes.entries + 1) (bytes mid.files.files) (bytes c.end_journal-failed.new.files.files) (bytes c.into_inner-below.result.0) (g.L.Files.bytes_at mid.lockfiles) (sym named) (c.end_journal-failed.ensures.others tells) (rw c.into_inner-below.ensures.files refl))) same in
-    let is_back = entries_back j (bytes c.args.files) (bytes mid.files.files) (g.L.Files.bytes_at c.args.lockfiles) (g.L.Files.bytes_at mid.lockfiles) mid.files.notes.entries kept.more
-    (rw begun at kept.keeps) (rw named at all) (rw (c.new.ensures.files, begun, named) at (ran.2 tells)) in
+    let end = without_same mid.files.notes.journal (bytes mid.files.files) (bytes c.end_journal-failed.new.files.files) (λ q out. c.end_journal-failed.ensures.others tells q (λ i lt. apart_from mid.files.notes.journal i q out)) in
+    let others = subst (λ (m : Contents). KeepsOtherFiles (without j (bytes c.args.files)) m) (rw named at end) (rw c.into_inner-below.ensures.files at same) in
+    let is_back = entries_back j (bytes c.args.files) (bytes mid.files.files) mid.files.notes.entries kept.more (rw begun at kept.keeps) others (rw (c.new.ensures.files, begun, named) at (ran.2 tells)) in
     let ends : IsAtEnd g.F.Files mid.files.notes.journal (bytes c.into_inner-below.result.0) mid.files.files c.end_journal-failed.new.files.files = record { ended = rw c.into_inner-below.ensures.files refl; only = c.end_journal-failed.ensures.only } in
     elim (c.end_journal-failed.ensures.ended tells is_back) [
       | inl gone ↦ inl (rw (c.into_inner-below.ensures.files, sym named) gone)
