@@ -13,8 +13,8 @@ use Rattle.hack_run.specs.declared.fault.RunFault.TheVariants as fault
 
 -- no other line stands before that of such an error
 alone : (fault : RunFault) (env : Env) (coloring : Coloring) (old new : Stream) → is_refusal fault ≡ true → SaysEnd (Err fault) env coloring old new → WritesError coloring old new
-alone fault.Memory env coloring old new is h = (h.2, subst (λ (s : Stream). WritesText (error_line coloring h.2) s new) h.1 h.4)
-alone (fault.Words w) env coloring old new is h = (h.2, subst (λ (s : Stream). WritesText (error_line coloring h.2) s new) h.1 h.4)
+alone fault.Memory env coloring old new is h = (h.2.0, subst (λ (s : Stream). WritesText (error_line coloring h.2.0) s new) h.1 h.2.2)
+alone (fault.Words w) env coloring old new is h = (h.2.0, subst (λ (s : Stream). WritesText (error_line coloring h.2.0) s new) h.1 h.2.2)
 alone (fault.Context w) env coloring old new is h = absurd (cc)
 alone (fault.Manifests w) env coloring old new is h = absurd (cc)
 alone (fault.Plan w) env coloring old new is h = absurd (cc)
