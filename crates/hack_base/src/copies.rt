@@ -1,6 +1,6 @@
 //! Copies of texts, and texts that are lent.
 
-ghost use Rattle.std.specs.Prelude.{◌≡◌, ◌++◌, IfOk, OnOk, map, option_map};
+ghost use Rattle.std.specs.Prelude.{◌≡◌, ◌++◌, IfOk, OnErr, OnOk, SomeIndex, map, option_map, take};
 ghost use Rattle.hack_base.specs.Names.{names_of, optional_text, optional_text_ref};
 
 use std::alloc::{AllocError, Global};
@@ -17,10 +17,12 @@ pub fn copies<T: AsStr>(alloc: Global, texts: &[T]) -> Result<Vec<String>, Alloc
     Ok(copies)
 }
 
-/// Appends copies of texts.
+/// Appends copies of texts; only of the first ones where memory is refused.
 pub fn push_copies(texts: &mut Vec<String>, more: &[String]) -> Result<(), AllocError>
-    ensures { OnOk result (names_of texts.new.items
+    ensures all { OnOk result (names_of texts.new.items
         ≡ names_of texts.old.items ++ names_of more.now) }
+    ensures some { OnErr result (SomeIndex more.now (λ i. names_of texts.new.items
+        ≡ names_of texts.old.items ++ names_of (take i more.now))) }
 {
     for text in more {
         texts.push(text.clone()?)?;

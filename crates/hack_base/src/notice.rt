@@ -1,7 +1,7 @@
 //! What a call has to report to the user. A call returns its notices, and its caller prints them,
 //! so that a call that ends with an error reports nothing else.
 
-ghost use Rattle.std.specs.Prelude.{OnOk, string_bytes};
+ghost use Rattle.std.specs.Prelude.{◌≡◌, OnErr, OnOk, string_bytes};
 ghost use Rattle.hack_base.specs.Notes.{AddsNotes, note_if};
 
 use std::alloc::AllocError;
@@ -32,8 +32,9 @@ pub fn tell(
     kind: NoticeKind,
     text: String,
 ) -> Result<(), AllocError>
-    ensures { OnOk result (AddsNotes notices.old notices.new
+    ensures told { OnOk result (AddsNotes notices.old notices.new
         (note_if told kind (string_bytes text))) }
+    ensures kept { OnErr result (notices.new.items ≡ notices.old.items) }
 {
     if told {
         notices.push(Notice { kind, text })?;
