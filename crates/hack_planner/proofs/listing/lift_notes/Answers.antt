@@ -16,4 +16,4 @@ loop-lift-preserved c =
     c.loop-lift-test.true c.lift-item.is
     (ap not (c.is_called-told.ensures ∙ ap (is_called ms) c.as_str-owner.ensures.value))
     (c.in_ok-text.ensures ∙ ap (lift_text c.args.root.now) c.as_str-owner.ensures.value)
-    c.in_ok-tell.ensures c.loop-lift.invariant
+    c.in_ok-tell.ensures.told c.loop-lift.invariant

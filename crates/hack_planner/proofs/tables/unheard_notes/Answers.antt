@@ -17,4 +17,4 @@ loop-name-preserved c =
     c.loop-name-test.true c.name-item.is
     (ap not (c.one_may_have-told.ensures ∙ ap (λ (ids : List ℕ). list_any (λ id. option_map_or (λ f. may_have cx.args.include_deps_features f c.as_str-in-loop-name.result.now) (features_at cx id) false) ids) c.workspace_members.ensures.members ∙ ap (member_may_have cx) c.as_str-in-loop-name.ensures.value))
     (c.in_ok-text.ensures ∙ ap workspace_text c.as_str.ensures.value)
-    c.in_ok-tell.ensures c.loop-name.invariant
+    c.in_ok-tell.ensures.told c.loop-name.invariant

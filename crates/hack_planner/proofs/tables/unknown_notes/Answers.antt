@@ -12,4 +12,4 @@ loop-name-preserved c =
     c.loop-name-test.true c.name-item.is
     (ap not (c.is_had-told.ensures ∙ ap (may_have c.args.loaded f) c.as_str-in-loop-name.ensures.value))
     (c.in_ok-text.ensures ∙ ap (table_text c.args.pkg.now) c.as_str.ensures.value)
-    c.in_ok-tell.ensures c.loop-name.invariant
+    c.in_ok-tell.ensures.told c.loop-name.invariant

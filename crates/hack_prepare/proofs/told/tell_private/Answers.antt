@@ -1,4 +1,4 @@
 use Rattle.hack_prepare.proofs.told.tell_private.Goals as goal
 
 pub returns : goal.returns
-returns c = rw c.in_ok-text.ensures.ok at c.tell.ensures
+returns c = rw c.in_ok-text.ensures.ok at c.tell.ensures.told

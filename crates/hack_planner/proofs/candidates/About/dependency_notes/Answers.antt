@@ -13,4 +13,4 @@ loop-name-preserved c =
     c.loop-name-test.true c.name-item.is
     (ap not (c.one_has-told.ensures ∙ ap (λ l. one_has (groups_of l) c.as_str-in-loop-name-2.result.now) c.optional_deps.ensures ∙ ap (one_has (groups_of f.optional_deps.items)) c.as_str-in-loop-name-2.ensures.value))
     (c.in_ok-text.ensures ∙ ap (λ pkg. dependency_text pkg c.as_str.result.now) c.as_str-in-loop-name.ensures.value ∙ ap (dependency_text (string_bytes c.args.self.now.pkg.now.name)) c.as_str.ensures.value)
-    c.in_ok-tell.ensures c.loop-name.invariant
+    c.in_ok-tell.ensures.told c.loop-name.invariant

@@ -12,4 +12,4 @@ loop-name-preserved c =
     c.loop-name-test.true c.name-item.is
     (ap not (c.is_found-told.ensures ∙ ap (is_found f) c.as_str-in-loop-name-2.ensures.value))
     (c.in_ok-text.ensures ∙ ap (λ pkg. feature_text pkg c.as_str.result.now) c.as_str-in-loop-name.ensures.value ∙ ap (feature_text (string_bytes c.args.self.now.pkg.now.name)) c.as_str.ensures.value)
-    c.in_ok-tell.ensures c.loop-name.invariant
+    c.in_ok-tell.ensures.told c.loop-name.invariant

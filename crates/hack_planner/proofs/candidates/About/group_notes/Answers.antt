@@ -16,4 +16,4 @@ loop-group-preserved c =
     c.loop-group-test.true c.group-item.is
     (ap not c.applies-told.ensures)
     (c.in_ok-text.ensures ∙ ap (λ pkg. group_text pkg (names_of c.as_group.result.now)) c.as_str.ensures.value ∙ ap (group_text (string_bytes c.args.self.now.pkg.now.name)) c.as_group.ensures)
-    c.in_ok-tell.ensures c.loop-group.invariant
+    c.in_ok-tell.ensures.told c.loop-group.invariant
