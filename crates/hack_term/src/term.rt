@@ -6,7 +6,7 @@
 
 ghost use Rattle.std.specs.Prelude.{◌≡◌, ◌++◌, IfSome, IfNone, OnOk, true, false, string_bytes};
 ghost use Rattle.std.specs.Io.KnownBytes.{Appends};
-ghost use Rattle.hack_base.specs.Writes.{AppendsFront, CountsErrors};
+ghost use Rattle.hack_base.specs.Writes.{AppendsFront, CountsErrors, line};
 ghost use Rattle.hack_term.specs.Lines.{coloring_name, warning_label as label_of_warnings};
 ghost use Rattle.hack_term.specs.Lines.{IsNoColoring, error_label as label_of_errors, warning_line};
 ghost use Rattle.hack_term.specs.Lines.{coloring_of, info_line, error_line, notice_line};
@@ -67,6 +67,25 @@ fn error_label(coloring: Coloring) -> &'static str
         Coloring::Always => "\x1b[0m\x1b[1m\x1b[31merror\x1b[0m\x1b[1m:\x1b[0m ",
         Coloring::Auto | Coloring::Never => "error: ",
     }
+}
+
+/// Writes a line of three parts behind its label.
+fn write_parts<W: Sink>(
+    label: &str,
+    before: &str,
+    name: &str,
+    after: &str,
+    out: &mut W,
+) -> io::Result<()>
+    ensures all { OnOk result (Appends (W.contents out.old) (W.contents out.new)
+        (line label.now (before.now ++ (name.now ++ after.now)))) }
+    ensures front { AppendsFront (W.contents out.old) (W.contents out.new)
+        (line label.now (before.now ++ (name.now ++ after.now))) }
+    ensures counted { CountsErrors (W.failed out.old) (W.failed out.new) result }
+{
+    write_front(label, out)?;
+    write_front(before, out)?;
+    write_line(name, after, out)
 }
 
 /// How lines are printed, and what was printed so far.
@@ -131,8 +150,44 @@ impl Term {
         write_line(error_label(self.coloring), text, out)
     }
 
-    /// Writes the line of an error that names something between two parts of its text, which so is
-    /// never put together: it needs no memory. The error is recorded even if the write fails.
+    /// Writes an info line that names something between two parts of its text, which so is never put
+    /// together: it needs no memory.
+    pub fn info_of<W: Sink>(
+        &self,
+        before: &str,
+        name: &str,
+        after: &str,
+        out: &mut W,
+    ) -> io::Result<()>
+        ensures line { OnOk result (Appends (W.contents out.old) (W.contents out.new)
+            (info_line self.now.coloring (before.now ++ (name.now ++ after.now)))) }
+        ensures front { AppendsFront (W.contents out.old) (W.contents out.new)
+            (info_line self.now.coloring (before.now ++ (name.now ++ after.now))) }
+        ensures counted { CountsErrors (W.failed out.old) (W.failed out.new) result }
+    {
+        write_parts(info_label(self.coloring), before, name, after, out)
+    }
+
+    /// Writes a warning likewise. It is recorded even if the write fails.
+    pub fn warn_of<W: Sink>(
+        &mut self,
+        before: &str,
+        name: &str,
+        after: &str,
+        out: &mut W,
+    ) -> io::Result<()>
+        ensures noted { self.new ≡ record self.old { warn = true } }
+        ensures line { OnOk result (Appends (W.contents out.old) (W.contents out.new)
+            (warning_line self.old.coloring (before.now ++ (name.now ++ after.now)))) }
+        ensures front { AppendsFront (W.contents out.old) (W.contents out.new)
+            (warning_line self.old.coloring (before.now ++ (name.now ++ after.now))) }
+        ensures counted { CountsErrors (W.failed out.old) (W.failed out.new) result }
+    {
+        self.warn = true;
+        write_parts(warning_label(self.coloring), before, name, after, out)
+    }
+
+    /// Writes the line of an error likewise. It is recorded even if the write fails.
     pub fn error_of<W: Sink>(
         &mut self,
         before: &str,
@@ -148,9 +203,7 @@ impl Term {
         ensures counted { CountsErrors (W.failed out.old) (W.failed out.new) result }
     {
         self.error = true;
-        write_front(error_label(self.coloring), out)?;
-        write_front(before, out)?;
-        write_line(name, after, out)
+        write_parts(error_label(self.coloring), before, name, after, out)
     }
 
     /// Writes a notice as its kind requires.
