@@ -1,5 +1,5 @@
 -- Which writes and removals were refused, and by whom.
-use Rattle.std.specs.Prelude.{◌≡◌, ◌⊎◌, ◌≤◌, ◌+◌, ◌∷◌, [], ℕ, List, MatchResult, Result, OnErr, IsTrue, All, length}
+use Rattle.std.specs.Prelude.{◌≡◌, ◌⊎◌, ◌≤◌, ◌+◌, ◌∷◌, ◌||◌, [], ℕ, Bool, List, MatchResult, Result, OnErr, IsTrue, All, false, length, true}
 use Rattle.hack_base.specs.Counters.{GrowsBy}
 use Rattle.hack_files.specs.Files.{GrowsAtLeastBy}
 use Rattle.hack_files.specs.declared.fs.Files.{Ghosts as Filing}
@@ -11,6 +11,16 @@ pub record IsRefused {F : Type 0} (f : Filing F) (path : List ℕ) : Type 0 wher
   pub before : F
   pub after : F
   pub refused : f.refuses before after (path ∷ [])
+
+abbrev pub are_some : List (List ℕ) → Bool
+are_some [] = false
+are_some (path ∷ more) = true
+
+-- these files refused some write or removal, or none, as the flag notes that went up from `was` to `is`
+pub record NotesRefusals {F : Type 0} (f : Filing F) (old new : F) (was is : Bool) : Type 0 where
+  pub paths : List (List ℕ)
+  pub refused : f.refuses old new paths
+  pub noted : is ≡ (was || are_some paths)
 
 -- it was told that a write of this path couldn't be kept
 pub record IsUnkept {U : Type 0} (u : Noting U) (path : List ℕ) : Type 0 where

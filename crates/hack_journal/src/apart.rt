@@ -3,7 +3,7 @@
 //! Cargo itself changes `Cargo.lock` during a call, so a journal can't say what it held. Where the
 //! other files have a journal, writes of lockfiles don't go through it.
 
-ghost use Rattle.std.specs.Prelude.{◌≡◌, ◌↔◌, Some, IfOk, IsTrue, IsSome};
+ghost use Rattle.std.specs.Prelude.{◌≡◌, ◌↔◌, Some, IfOk, IsTrue, IsSome, false};
 ghost use Rattle.hack_files.specs.Files.{by_kind};
 ghost use Rattle.hack_journal.specs.LockfilesApart.{is_lockfile, apart, KeepsLockfiles};
 ghost use Rattle.hack_journal.specs.LockfilesApart.{KeepsOtherFiles};
@@ -18,6 +18,8 @@ use std::io;
 pub struct Apart<A: Files, B: Files> {
     pub files: A,
     pub lockfiles: B,
+    /// Whether a write of a lockfile was refused.
+    pub is_unwritten: bool,
     failures: u64,
     /// Whether the last call went to the lockfiles.
     is_at_lockfiles: bool,
@@ -35,11 +37,13 @@ impl<A: Files, B: Files> Apart<A, B> {
     pub fn new(files: A, lockfiles: B) -> Self
         ensures files { result.files ≡ files }
         ensures lockfiles { result.lockfiles ≡ lockfiles }
+        ensures is_unwritten { result.is_unwritten ≡ false }
         ensures failures { result.failures ≡ 0 }
     {
         Apart {
             files,
             lockfiles,
+            is_unwritten: false,
             failures: 0,
             is_at_lockfiles: false,
         }
@@ -51,21 +55,23 @@ impl<A: Files, B: Files> Files for Apart<A, B> {
     ghost use Rattle.hack_journal.specs.FailedCalls.{LooksOrUnseen, ReadsOrUnseen};
     ghost use Rattle.hack_journal.specs.FileCalls.{OnlyLooks, GoesToOne, Puts, PutsByKind};
     ghost use Rattle.hack_journal.specs.Refusing.{AreJust, GrowsAsBoth, HoldsByKind, IsRefused};
-    ghost use Rattle.hack_journal.specs.Refusing.{UnseenByKind};
+    ghost use Rattle.hack_journal.specs.Refusing.{NotesRefusals, UnseenByKind};
     ghost use Rattle.hack_journal.specs.RefusingLaws.{both_more, both_none, both_or_not};
     ghost use Rattle.hack_journal.specs.RefusingLaws.{just_none, just_more, just_some};
+    ghost use Rattle.hack_journal.specs.RefusingLaws.{notes_more, notes_same};
 
     ghost tells = { A.tells × B.tells };
 
     ghost whole = { A.whole × B.whole };
 
-    // What `A` holds at paths of lockfiles never changes, nor what `B` holds at others, and just what
-    // failed in one of the two is counted.
+    // What `A` holds at paths of lockfiles never changes, nor what `B` holds at others, just what
+    // failed in one of the two is counted, and it is noted whether `B` refused a write.
     ghost stays = { λ a b. A.stays a.files b.files × B.stays a.lockfiles b.lockfiles
         × (A.tells → KeepsLockfiles (A.bytes_at a.files) (A.bytes_at b.files))
         × GrowsAsBoth (A.failed a.files) (A.failed b.files)
         (B.failed a.lockfiles) (B.failed b.lockfiles) a.failures b.failures
-        × (B.tells → KeepsOtherFiles (B.bytes_at a.lockfiles) (B.bytes_at b.lockfiles)) };
+        × (B.tells → KeepsOtherFiles (B.bytes_at a.lockfiles) (B.bytes_at b.lockfiles))
+        × NotesRefusals B.Files a.lockfiles b.lockfiles a.is_unwritten b.is_unwritten };
 
     ghost stays_none = { λ a. (
       A.stays_none a.files,
@@ -73,6 +79,7 @@ impl<A: Files, B: Files> Files for Apart<A, B> {
       λ t q lock. refl,
       both_none (A.failed a.files) (B.failed a.lockfiles) a.failures,
       λ t q other. refl,
+      notes_same B.Files a.lockfiles a.lockfiles a.is_unwritten (B.refuses_none a.lockfiles),
     ) };
 
     ghost stays_more = { λ a b c f g. (
@@ -81,6 +88,7 @@ impl<A: Files, B: Files> Files for Apart<A, B> {
       λ t q lock. g.2 t q lock ∙ f.2 t q lock,
       both_more _ _ _ _ _ _ _ _ _ f.3 g.3,
       λ t q other. g.4 t q other ∙ f.4 t q other,
+      notes_more B.Files a.lockfiles b.lockfiles c.lockfiles _ _ _ f.5 g.5,
     ) };
 
     // Each of these paths was refused by those files that it goes to.
@@ -140,7 +148,9 @@ impl<A: Files, B: Files> Files for Apart<A, B> {
     {
         let outcome = if is_lockfile(path) {
             self.is_at_lockfiles = true;
-            self.lockfiles.write(path, bytes)
+            let put = self.lockfiles.write(path, bytes);
+            self.is_unwritten |= put.is_err();
+            put
         } else {
             self.is_at_lockfiles = false;
             self.files.write(path, bytes)

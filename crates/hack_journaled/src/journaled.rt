@@ -10,6 +10,7 @@ ghost use Rattle.hack_journal.specs.FailedCalls.{CannotEnd};
 ghost use Rattle.hack_journal.specs.FileCalls.{spot_in};
 ghost use Rattle.hack_journal.specs.LockfilesApart.{KeepsLockfiles, KeepsOtherFiles};
 ghost use Rattle.hack_journal.specs.Refusing.{AreJust, HoldsByKind, IsRefused, IsRefusedOrUnkept};
+ghost use Rattle.hack_journal.specs.Refusing.{NotesRefusals};
 ghost use Rattle.hack_journal.specs.Rows.{KeepsBeside, RemovesOwn, spot_of};
 ghost use Rattle.hack_journal.specs.SafeFiles.{AreBack, Stays, StaysSafe, without};
 ghost use Rattle.hack_journaled.specs.Journals.{BetweenBoth, IsAccounted, files_seen, world_seen};
@@ -36,10 +37,11 @@ use hack_run::run::run;
 use hack_starts::starts::Starts;
 
 /// Performs a call as [`run`] does, and returns its exit status, the files, the lockfiles, how many
-/// of their calls failed, and `unkept`. Each change of the files is first noted in a journal at this
-/// place, where no file may be yet; at the end the journal is removed, unless some file isn't
-/// restored. A change that can't be noted is refused, and `unkept` is told of it: so it is where
-/// memory is refused for that. Lockfiles, which cargo changes too, are those of `lockfiles`.
+/// of their calls failed, `unkept`, and whether a write of a lockfile was refused. Each change of the
+/// files is first noted in a journal at this place, where no file may be yet; at the end the journal
+/// is removed, unless some file isn't restored. A change that can't be noted is refused, and `unkept`
+/// is told of it: so it is where memory is refused for that. Lockfiles, which cargo changes too, are
+/// those of `lockfiles`.
 pub fn run_journaled<F: JournalFiles, L: Files, U: Unkept, C: Starts, O: Sink, E: Sink>(
     words: &[String],
     reading: Option<Reading>,
@@ -48,7 +50,7 @@ pub fn run_journaled<F: JournalFiles, L: Files, U: Unkept, C: Starts, O: Sink, E
     place: JournalPlace,
     unkept: U,
     host: &mut Host<'_, C, O, E>,
-) -> (u8, F, L, u64, U)
+) -> (u8, F, L, u64, U, bool)
     requires { IfSome reading (IsEarlyReadingOrRefusal host.old.env.now (names_of words.now)) }
     ensures host { IsSameHost host.old host.new }
     ensures status { IsStatus host.old.env.now.deny_warnings
@@ -131,6 +133,9 @@ pub fn run_journaled<F: JournalFiles, L: Files, U: Unkept, C: Starts, O: Sink, E
         (L.failed lockfiles) (L.failed result.2)
         (U.told unkept) (U.told result.4) result.3 }
 
+    // It is known whether a write of a lockfile was refused.
+    ensures unwritten { NotesRefusals L.Files lockfiles result.2 false result.5 }
+
     // The journal is removed: where none existed before, edits don't stay and no call failed, none
     // exists at the end.
     ensures gone { RestoresEdits host.old.env.now (names_of words.now)
@@ -174,8 +179,9 @@ pub fn run_journaled<F: JournalFiles, L: Files, U: Unkept, C: Starts, O: Sink, E
     let status = run(words, reading, &mut files, host);
     let known = files.failures();
     let failed = end_journal(&mut files.files, known);
+    let unwritten = files.is_unwritten;
     let (below, unkept) = files.files.into_inner();
-    (status, below, files.lockfiles, failed, unkept)
+    (status, below, files.lockfiles, failed, unkept, unwritten)
 }
 
 /// Removes the journal where all files are restored, and returns the number of failed calls, with

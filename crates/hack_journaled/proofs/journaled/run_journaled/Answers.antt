@@ -235,3 +235,6 @@ pub returns-clause-in_lanes : goal.returns-clause-in_lanes
 returns-clause-in_lanes g c =
     let named : c.new.result.notes.journal ≡ string_bytes c.args.place.journal = ap (λ (s : Spot). s.journal) c.new.ensures.place in
     rw (c.new-files.ensures.files, c.new-files.ensures.lockfiles, named, c.new.ensures.files) at c.run-status.ensures.in_lanes
+
+pub returns-clause-unwritten : goal.returns-clause-unwritten
+returns-clause-unwritten g c = rw (c.new-files.ensures.lockfiles, c.new-files.ensures.is_unwritten) at c.run-status.ensures.stays.5

@@ -1,6 +1,7 @@
 use Rattle.std.proofs.Common.{◌≡◌, ap, refl, rules}
 use Rattle.hack_journal.proofs.ApartLemmas.{files_kept, lockfiles_kept}
 use Rattle.hack_journal.proofs.RefusingLemmas.{just_looks, read_lockfile, read_other, both_first, both_second}
+use Rattle.hack_journal.specs.RefusingLaws.{notes_same}
 use Rattle.hack_journal.proofs.apart.ApartFiles.read.Goals.{then-is_lockfile, else-is_lockfile}
 use Rattle.hack_journal.proofs.apart.ApartFiles.read.Goals as goal
 
@@ -10,8 +11,8 @@ returns-clause-looks g c =
     let counted = rw same at c.counted.ensures.counted in
     record {
       stays = elim c.if-is_lockfile.branch [
-        | then-is_lockfile w ↦ rw w.self-is (g.A.Files.stays_none _, w.read-outcome.ensures.stays, (λ t q lock. refl), both_second w.read-outcome.result _ _ _ _ _ w.read-outcome.ensures.counted (rw w.outcome-is at counted), (λ t q other. w.read-outcome.ensures.same t q))
-        | else-is_lockfile w ↦ rw w.self-is (w.read-outcome-else-is_lockfile.ensures.stays, g.B.Files.stays_none _, (λ t q lock. w.read-outcome-else-is_lockfile.ensures.same t q), both_first w.read-outcome-else-is_lockfile.result _ _ _ _ _ w.read-outcome-else-is_lockfile.ensures.counted (rw w.outcome-is at counted), (λ t q other. refl))
+        | then-is_lockfile w ↦ rw w.self-is (g.A.Files.stays_none _, w.read-outcome.ensures.stays, (λ t q lock. refl), both_second w.read-outcome.result _ _ _ _ _ w.read-outcome.ensures.counted (rw w.outcome-is at counted), (λ t q other. w.read-outcome.ensures.same t q), notes_same g.B.Files _ _ _ w.read-outcome.ensures.refused_none)
+        | else-is_lockfile w ↦ rw w.self-is (w.read-outcome-else-is_lockfile.ensures.stays, g.B.Files.stays_none _, (λ t q lock. w.read-outcome-else-is_lockfile.ensures.same t q), both_first w.read-outcome-else-is_lockfile.result _ _ _ _ _ w.read-outcome-else-is_lockfile.ensures.counted (rw w.outcome-is at counted), (λ t q other. refl), notes_same g.B.Files _ _ _ (g.B.Files.refuses_none _))
       ];
       counted = search rules;
       refused_none = just_looks _ _ _ _ counted;
