@@ -1,6 +1,6 @@
 -- How searches end that were broken off.
-use Rattle.std.proofs.Common.{◌≡◌, ◌∙◌, ◌+◌, ◌++◌, ◌∷◌, ◌⊎◌, [], ℕ, Bool, Err, List, Ok, Option, Result, ap, append-nil, append_assoc, false, if◌then◌else◌, inl, inr, length, map, refl, subst, sym, true}
-use Rattle.std.specs.List.{AllZip, list_any}
+use Rattle.std.proofs.Common.{◌≡◌, ◌∙◌, ◌+◌, ◌++◌, ◌∷◌, ◌⊎◌, [], ℕ, Bool, Err, List, Ok, Option, Result, ap, append-nil, append_assoc, false, inl, inr, length, map, refl, subst, sym, true}
+use Rattle.std.specs.List.{AllZip}
 use Rattle.hack_bisect.specs.Searches.{Trial as Tried}
 use Rattle.hack_bisect.specs.declared.tries.TrialOutcome.{TrialOutcome}
 use Rattle.hack_bisect.specs.declared.tries.TrialOutcome.TheVariants as outcome
@@ -22,11 +22,9 @@ use Rattle.hack_culprits.specs.declared.fault.CulpritsFault.{CulpritsFault}
 use Rattle.hack_culprits.specs.declared.fault.CulpritsFault.TheVariants as cause
 use Rattle.hack_hunt.specs.Hunts.{EndsSo, RanHunts, Spot}
 use Rattle.hack_hunt.specs.declared.hunt.Hunted.{Hunted}
-use Rattle.hack_report.specs.Conflicts.{hunted_remarks}
 use Rattle.hack_session.specs.declared.step.Step.TheVariants.{Run}
-use Rattle.hack_run.specs.Conclusions.{AreBrokenOff, broken_off, cut_short, finds, hunt_conclusion, is_broken, reason_text, version_conclusion}
-use Rattle.hack_report.specs.Findings.{found_remarks}
-use Rattle.hack_run.proofs.ConclusionLemmas.{none_broken}
+use Rattle.hack_run.specs.Conclusions.{AreBrokenOff, IsBrokenOff, hunt_conclusion, version_conclusion}
+use Rattle.hack_run.proofs.ConclusionLemmas.{none_broken, version_found}
 
 nil-push : {X : Type 0} (before : List X) (x : X) → [] ≡ before ++ x ∷ [] → ⊥
 nil-push [] x is = cc
@@ -91,23 +89,20 @@ module _ {R : Type 0} (ran : PlanView → List Handed → R → R → Type 0) (e
       behind (handed_in trials) (handed_in_all more) (ended b) (last-search plan (p + 1) before found more tried.0 b (ap rest is) say.1 tried.2)
 
   -- the searches were broken off where that is what they come to
-  pub broken_last : (cx : ContextRecord) (plan : PlanView) (found : List Found) (a b : R) → (s : IsSearched ran ended plan found a b) → version_conclusion cx plan found ≡ broken_off → AreBrokenOff (handed_in_all s.searches) (ended b)
+  pub broken_last : (cx : ContextRecord) (plan : PlanView) (found : List Found) (a b : R) → (s : IsSearched ran ended plan found a b) → IsBrokenOff (version_conclusion cx plan found) → AreBrokenOff (handed_in_all s.searches) (ended b)
   broken_last cx plan found a b s is = elim s.end [
-    | inl whole ↦ absurd (concludes (none_broken found whole.0))
+    | inl whole ↦ absurd (subst IsBrokenOff (version_found cx plan found (none_broken found whole.0)) is)
     | inr cut ↦ last-search plan 0 cut.0 found s.searches a b cut.2 s.say s.tried
   ]
-    where
-      concludes : list_any is_broken found ≡ false → ⊥
-      concludes off = let e : finds (found_remarks cx plan 0 found) ≡ broken_off = sym (ap (λ (y : Bool). if y then broken_off else finds (found_remarks cx plan 0 found)) off) ∙ is in cc
 
 -- ---- searches for conflicts
 
 -- a search for conflicts was broken off only where the call is at its end
-broken-cause : (verbose : Bool) (plan : PlanView) (came : Result (List Hunted) CulpritsFault) → hunt_conclusion verbose plan came ≡ broken_off → came ≡ Err cause.Ended
-broken-cause verbose plan (Ok found) is = let e : finds (hunted_remarks verbose plan found) ≡ broken_off = is in absurd (cc)
+broken-cause : (verbose : Bool) (plan : PlanView) (came : Result (List Hunted) CulpritsFault) → IsBrokenOff (hunt_conclusion verbose plan came) → came ≡ Err cause.Ended
+broken-cause verbose plan (Ok found) is = absurd is
 broken-cause verbose plan (Err cause.Ended) is = refl
-broken-cause verbose plan (Err cause.TooManyRuns) is = let e : cut_short (reason_text cause.TooManyRuns) ≡ broken_off = is in absurd (cc)
-broken-cause verbose plan (Err cause.Memory) is = let e : cut_short (reason_text cause.Memory) ≡ broken_off = is in absurd (cc)
+broken-cause verbose plan (Err cause.TooManyRuns) is = absurd is
+broken-cause verbose plan (Err cause.Memory) is = absurd is
 
 module _ {R : Type 0} (ran : PlanView → List Handed → R → R → Type 0) (ended : R → Bool) where
   -- the last run that was built is broken: the call is at its end with it
@@ -123,7 +118,7 @@ module _ {R : Type 0} (ran : PlanView → List Handed → R → R → Type 0) (e
       behind (step_at place m ∷ []) (steps_from (place + 1) (front ++ last ∷ [])) (ended b) (last-built plan (place + 1) front last h.0 b broken h.3)
 
   pub hunt_broken : (cx : ContextRecord) (most : Option ℕ) (spots : List Spot) (came : Result (List Hunted) CulpritsFault) (verbose : Bool) (old new : PlanView) (a b : R) → (h : RanHunts ran ended cx most spots came old new a b)
-      → hunt_conclusion verbose new came ≡ broken_off → AreBrokenOff (steps_from (length old.entries) h.built) (ended b)
+      → IsBrokenOff (hunt_conclusion verbose new came) → AreBrokenOff (steps_from (length old.entries) h.built) (ended b)
   hunt_broken cx most spots came verbose old new a b h is =
       let why = broken-cause verbose new came is in
       let last : AreBrokenLast h.built = subst (λ (c : Result (List Hunted) CulpritsFault). EndsSo c h.hunts.left h.hunts.hunted h.built new) why h.hunts.end in

@@ -18,12 +18,12 @@ use Rattle.hack_process.specs.declared.fault.ProcessFault.{ProcessFault}
 use Rattle.hack_session.specs.Histories.{Course}
 use Rattle.hack_term.specs.declared.term.Coloring.{Coloring}
 use Rattle.hack_term.specs.declared.term.Term.{Term}
-use Rattle.hack_run.specs.Conclusions.{AreBrokenOff, Conclusion, ConcludesSo, SaysConclusion, SaysSearch, broken_off, finds, hunt_conclusion, is_broken, version_conclusion}
+use Rattle.hack_run.specs.Conclusions.{AreBrokenOff, Conclusion, ConcludesSo, IsBrokenOff, SaysConclusion, SaysSearch, broken_after, finds, hunt_conclusion, is_broken, version_conclusion}
 use Rattle.hack_run.specs.Handed.{IsHuntedOut, IsSearchedOut}
 
 -- searches for the least versions
 pub concluded_search : (cx : ContextRecord) (rustup : Name) (course : Course) (notes : List Note) (fails warns ended : Bool) → cx.args.find_conflicts ≡ false → (s : IsSearchedOut false cx course.plan course.handed fails warns)
-    → (version_conclusion cx course.plan s.found ≡ broken_off → AreBrokenOff course.handed ended) → (ended ≡ true → version_conclusion cx course.plan s.found ≡ broken_off) → ConcludesSo cx rustup course notes fails warns ended (version_conclusion cx course.plan s.found)
+    → (IsBrokenOff (version_conclusion cx course.plan s.found) → AreBrokenOff course.handed ended) → (ended ≡ true → IsBrokenOff (version_conclusion cx course.plan s.found)) → ConcludesSo cx rustup course notes fails warns ended (version_conclusion cx course.plan s.found)
 concluded_search cx rustup course notes fails warns ended apart s broken stops = (
   subst (λ (b : Bool). MatchBool b
       ((hunt : IsHuntedOut false cx rustup course notes fails warns) × (version_conclusion cx course.plan s.found ≡ hunt_conclusion cx.args.verbose course.plan hunt.came))
@@ -34,7 +34,7 @@ concluded_search cx rustup course notes fails warns ended apart s broken stops =
 
 -- searches for conflicts
 pub concluded_hunt : (cx : ContextRecord) (rustup : Name) (course : Course) (notes : List Note) (fails warns ended : Bool) → cx.args.find_conflicts ≡ true → (h : IsHuntedOut false cx rustup course notes fails warns)
-    → (hunt_conclusion cx.args.verbose course.plan h.came ≡ broken_off → AreBrokenOff course.handed ended) → (ended ≡ true → hunt_conclusion cx.args.verbose course.plan h.came ≡ broken_off) → ConcludesSo cx rustup course notes fails warns ended (hunt_conclusion cx.args.verbose course.plan h.came)
+    → (IsBrokenOff (hunt_conclusion cx.args.verbose course.plan h.came) → AreBrokenOff course.handed ended) → (ended ≡ true → IsBrokenOff (hunt_conclusion cx.args.verbose course.plan h.came)) → ConcludesSo cx rustup course notes fails warns ended (hunt_conclusion cx.args.verbose course.plan h.came)
 concluded_hunt cx rustup course notes fails warns ended on h broken stops = (
   subst (λ (b : Bool). MatchBool b
       ((hunt : IsHuntedOut false cx rustup course notes fails warns) × (hunt_conclusion cx.args.verbose course.plan h.came ≡ hunt_conclusion cx.args.verbose course.plan hunt.came))
@@ -91,8 +91,8 @@ lines_said e (Ok noted) lines starved told reported a m b wrote none kept cut = 
 lines_said e (Err x) lines starved told reported a m b wrote none kept cut = inr (cut.0, subst (λ y. WritesAll starved (stream_of e y) (stream_of e b)) none cut.1)
 
 -- searches for the least versions that were broken off, or weren't
-pub version_broken : (cx : ContextRecord) (plan : PlanView) (found : List Found) → list_any is_broken found ≡ true → version_conclusion cx plan found ≡ broken_off
-version_broken cx plan found is = ap (λ (b : Bool). if b then broken_off else finds (found_remarks cx plan 0 found)) is
+pub version_broken : (cx : ContextRecord) (plan : PlanView) (found : List Found) → list_any is_broken found ≡ true → version_conclusion cx plan found ≡ broken_after (found_remarks cx plan 0 found)
+version_broken cx plan found is = ap (λ (b : Bool). (if b then broken_after else finds) (found_remarks cx plan 0 found)) is
 
 pub version_found : (cx : ContextRecord) (plan : PlanView) (found : List Found) → list_any is_broken found ≡ false → version_conclusion cx plan found ≡ finds (found_remarks cx plan 0 found)
-version_found cx plan found is = ap (λ (b : Bool). if b then broken_off else finds (found_remarks cx plan 0 found)) is
+version_found cx plan found is = ap (λ (b : Bool). (if b then broken_after else finds) (found_remarks cx plan 0 found)) is

@@ -33,7 +33,7 @@ use Rattle.hack_session.specs.declared.step.Handed.{Handed}
 use Rattle.hack_session.specs.declared.step.Outcome.TheVariants.{Passed, Failed}
 use Rattle.hack_session.specs.declared.step.Step.{Step}
 use Rattle.hack_side.specs.Beside.{DoesSteps}
-use Rattle.hack_run.specs.Conclusions.{broken_off, hunt_conclusion, version_conclusion}
+use Rattle.hack_run.specs.Conclusions.{IsBrokenOff, hunt_conclusion, version_conclusion}
 use Rattle.hack_run.specs.Shown.{StopsAtEnd, is_at_end}
 use Rattle.hack_run.proofs.ConclusionLemmas.{broken_one, version_broken}
 use Rattle.hack_run.proofs.StartedLemmas.{unbroken_search}
@@ -185,11 +185,11 @@ module _ {R : Type 0} (ran : PlanView → List Handed → R → R → Type 0) (s
 
   -- searches end where their call does, and then they come to no other conclusion
   pub searched_stops : (cx : ContextRecord) (plan : PlanView) (all : List Found) (a b : R) (s : IsSearched ran (λ a. is_at_end (st a)) plan all a b) → Fine a → is_at_end (st a) ≡ false
-      → Stops tells k m plan (handed_in_all s.searches) (st a) (st b) × (is_at_end (st b) ≡ true → version_conclusion cx plan all ≡ broken_off)
+      → Stops tells k m plan (handed_in_all s.searches) (st a) (st b) × (is_at_end (st b) ≡ true → IsBrokenOff (version_conclusion cx plan all))
   searched_stops cx plan all a b s fine goes = elim s.end [
     | inl whole ↦ let stopped = searches-stop plan 0 s.searches all a b fine goes (inl whole.0) s.say s.tried in (stopped.0, λ on. on-off (is_at_end (st b)) on (stopped.1 whole.0))
     | inr cut ↦ let stopped = searches-stop plan 0 s.searches all a b fine goes (inr cut) s.say s.tried in
-        (stopped.0, λ _. version_broken cx plan all (broken_one all (subst (λ (l : List Found). Contains l found.Broken) (sym cut.2) (Contains-push cut.0 found.Broken))))
+        (stopped.0, λ _. subst IsBrokenOff (sym (version_broken cx plan all (broken_one all (subst (λ (l : List Found). Contains l found.Broken) (sym cut.2) (Contains-push cut.0 found.Broken))))) tt)
   ]
 
   -- ---- searches for conflicts
@@ -226,7 +226,7 @@ module _ {R : Type 0} (ran : PlanView → List Handed → R → R → Type 0) (s
       later (inr (r ∷ front, end, is, all, broken)) = inr (front, end, cc is, All-tail (λ (r : Made). r.outcome ≢ built.Broken) r front all, broken)
 
   pub hunt_stops : (cx : ContextRecord) (most : Option ℕ) (spots : List Spot) (came : Result (List Hunted) CulpritsFault) (verbose : Bool) (old new : PlanView) (a b : R) (h : RanHunts ran (λ a. is_at_end (st a)) cx most spots came old new a b) → Fine a → is_at_end (st a) ≡ false
-      → Stops tells k m new (steps_from (length old.entries) h.built) (st a) (st b) × (is_at_end (st b) ≡ true → hunt_conclusion verbose new came ≡ broken_off)
+      → Stops tells k m new (steps_from (length old.entries) h.built) (st a) (st b) × (is_at_end (st b) ≡ true → IsBrokenOff (hunt_conclusion verbose new came))
   hunt_stops cx most spots came verbose old new a b h fine goes = go came h.hunts.end
     where
       stop : AreUnbrokenRuns h.built ⊎ AreBrokenLast h.built → Stops tells k m new (steps_from (length old.entries) h.built) (st a) (st b) × (AreUnbrokenRuns h.built → is_at_end (st b) ≡ false)
@@ -235,8 +235,8 @@ module _ {R : Type 0} (ran : PlanView → List Handed → R → R → Type 0) (s
       whole : {P : Type 0} → AreUnbrokenRuns h.built → Stops tells k m new (steps_from (length old.entries) h.built) (st a) (st b) × (is_at_end (st b) ≡ true → P)
       whole {P} all = let stopped = stop (inl all) in (stopped.0, λ on. on-off (is_at_end (st b)) on (stopped.1 all))
 
-      go : (came : Result (List Hunted) CulpritsFault) → EndsSo came h.hunts.left h.hunts.hunted h.built new → Stops tells k m new (steps_from (length old.entries) h.built) (st a) (st b) × (is_at_end (st b) ≡ true → hunt_conclusion verbose new came ≡ broken_off)
+      go : (came : Result (List Hunted) CulpritsFault) → EndsSo came h.hunts.left h.hunts.hunted h.built new → Stops tells k m new (steps_from (length old.entries) h.built) (st a) (st b) × (is_at_end (st b) ≡ true → IsBrokenOff (hunt_conclusion verbose new came))
       go (Ok all) end = whole end.2
-      go (Err cause.Ended) end = ((stop (inr end)).0, λ _. refl)
+      go (Err cause.Ended) end = ((stop (inr end)).0, λ _. tt)
       go (Err cause.TooManyRuns) end = whole end.0
       go (Err cause.Memory) end = whole end

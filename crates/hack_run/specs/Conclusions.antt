@@ -24,11 +24,20 @@ use Rattle.hack_term.specs.Lines.{error_line}
 use Rattle.hack_term.specs.declared.term.Coloring.{Coloring}
 use Rattle.hack_run.specs.Handed.{IsHuntedOut, IsSearchedOut, is_hunt}
 
--- what a search comes to: it was broken off, or cut short for this reason, or has these lines to say
+-- what a search comes to: it was broken off, with these lines to say of what was found before, or with none; or it was
+-- cut short for this reason, or has these lines to say
 pub data Conclusion : Type 0 where
   broken_off : Conclusion
+  broken_after : List RemarkView → Conclusion
   cut_short : List ℕ → Conclusion
   finds : List RemarkView → Conclusion
+
+-- the search was broken off
+abbrev pub IsBrokenOff : Conclusion → Type 0
+IsBrokenOff broken_off = Unit {0}
+IsBrokenOff (broken_after remarks) = Unit {0}
+IsBrokenOff (cut_short why) = ⊥
+IsBrokenOff (finds remarks) = ⊥
 
 -- the search for a package's least version was broken off
 abbrev pub is_broken : Found → Bool
@@ -39,7 +48,7 @@ is_broken (Nowhere version failed) = false
 
 -- what searches for the least versions come to, which found these
 abbrev pub version_conclusion : ContextRecord → PlanView → List Found → Conclusion
-version_conclusion cx plan found = if list_any is_broken found then broken_off else finds (found_remarks cx plan 0 found)
+version_conclusion cx plan found = (if list_any is_broken found then broken_after else finds) (found_remarks cx plan 0 found)
 
 -- why a search for conflicts was cut short, where no run has said so
 abbrev pub reason_text : CulpritsFault → List ℕ
@@ -64,17 +73,21 @@ ConcludesSo cx rustup course notes fails warns ended conclusion =
     MatchBool (is_hunt false cx.args)
     ((hunt : IsHuntedOut false cx rustup course notes fails warns) × (conclusion ≡ hunt_conclusion cx.args.verbose course.plan hunt.came))
     ((search : IsSearchedOut false cx course.plan course.handed fails warns) × (conclusion ≡ version_conclusion cx course.plan search.found))
-    × (conclusion ≡ broken_off → AreBrokenOff course.handed ended) × (ended ≡ true → conclusion ≡ broken_off)
+    × (IsBrokenOff conclusion → AreBrokenOff course.handed ended) × (ended ≡ true → IsBrokenOff conclusion)
+
+-- these lines were written, and nothing else reported; or that memory was refused for them
+abbrev pub SaysLines : List RemarkView → Coloring → Bool → Bool → Stream → Stream → Type 0
+SaysLines remarks coloring told reported old new = ((reported ≡ told) × WritesAll (remark_lines coloring remarks) old new)
+    ⊎ ((reported ≡ true) × WritesAll (error_line coloring (codes "out of memory") ∷ []) old new)
 
 -- What is said of a conclusion, whether an error was reported then, and which is left to tell, where a step's was `was`:
--- nothing is said where the search was broken off; else why it was cut short, or its lines, or that memory was refused
--- for these.
+-- that one where the search was broken off, and its lines, if it has any, are said; else none, and why it was cut short,
+-- or its lines.
 abbrev pub SaysConclusion : Conclusion → Coloring → Option ProcessFault → Bool → Option ProcessFault → Bool → Stream → Stream → Type 0
 SaysConclusion broken_off coloring was told left reported old new = (left ≡ was) × (reported ≡ told) × (new ≡ old)
+SaysConclusion (broken_after remarks) coloring was told left reported old new = (left ≡ was) × SaysLines remarks coloring told reported old new
 SaysConclusion (cut_short why) coloring was told left reported old new = (left ≡ None) × (reported ≡ true) × WritesAll (error_line coloring why ∷ []) old new
-SaysConclusion (finds remarks) coloring was told left reported old new = (left ≡ None)
-    × (((reported ≡ told) × WritesAll (remark_lines coloring remarks) old new)
-    ⊎ ((reported ≡ true) × WritesAll (error_line coloring (codes "out of memory") ∷ []) old new))
+SaysConclusion (finds remarks) coloring was told left reported old new = (left ≡ None) × SaysLines remarks coloring told reported old new
 
 -- the same; where memory was refused for a step, which is reported then, nothing is said, and none is left
 abbrev pub SaysSearch : Bool → Conclusion → Coloring → Option ProcessFault → Bool → Option ProcessFault → Bool → Stream → Stream → Type 0

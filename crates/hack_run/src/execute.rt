@@ -250,7 +250,7 @@ fn drive_in_lanes<L: Turns, O: Sink, E: Sink>(
 }
 
 /// Has a starter whose programs are called in lanes, one after another, search for the least versions,
-/// and reports what was found, unless the search was broken off.
+/// and reports what was found.
 fn search_in_lanes<L: Turns, O: Sink, E: Sink>(
     alloc: Global,
     cx: &Context,
@@ -298,9 +298,9 @@ fn search_in_lanes<L: Turns, O: Sink, E: Sink>(
     Ok(())
 }
 
-/// Reports what a search found, and keeps whether a greatest version fails. Where the search was
-/// broken off, `fault` says why, or memory was refused, which is told already. Else a run that failed
-/// is no error of the call.
+/// Reports what a search found, also where it was broken off, and keeps whether a greatest version
+/// fails. Where it was broken off, `fault` says why. Else a run that failed is no error of the call.
+/// Where memory was refused for a step, which is told already, nothing is reported.
 fn settle<E: Sink>(
     alloc: Global,
     cx: &Context,
@@ -326,16 +326,23 @@ fn settle<E: Sink>(
     if refused {
         return cut_off(fault, term);
     }
-    if is_broken(found) {
-        return;
-    }
-    *fault = None;
+    forgive(found, fault);
     keep(
         tell_found(alloc, cx, plan, found, term.coloring, err),
         fails,
         term,
         err,
     );
+}
+
+/// Takes back the error of a run that failed: a call has none, unless a search was broken off.
+fn forgive(found: &[Found], fault: &mut Option<ProcessFault>)
+    ensures { ((fault.new ≡ fault.old) × Contains found.now Found.Broken)
+        ⊎ ((fault.new ≡ None) × AreUnbroken found.now) }
+{
+    if !is_broken(found) {
+        *fault = None;
+    }
 }
 
 /// Keeps what the lines on a search noted, or says that memory was refused for them.
