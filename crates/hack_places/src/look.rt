@@ -1,8 +1,7 @@
 //! Looks at files. Where a look fails, it isn't known what is at the path, and the error names it.
 
-ghost use Rattle.std.specs.Prelude.{◌≡◌, [], ℕ, IfErr, IfOk, OnErr, is_some, option_map};
+ghost use Rattle.std.specs.Prelude.{◌≡◌, [], ℕ, IfErr, IfOk, is_some, option_map};
 ghost use Rattle.hack_base.specs.Counters.{GrowsBy};
-ghost use Rattle.hack_files.specs.FailedCalls.{LookFailed};
 ghost use Rattle.hack_files.specs.Files.{KeepsAll, Makes};
 ghost use Rattle.hack_places.specs.FileLooks.{AreLooksCounted, AreLooksSeen};
 ghost use Rattle.hack_places.specs.FileLooks.{CountsLookFault, IsOfPath};
@@ -61,9 +60,6 @@ pub fn is_there<F: Files>(alloc: Global, path: &str, files: &mut F) -> Result<bo
     ensures counted { AreLooksCounted (F.failed files.old) (F.failed files.new) result }
     ensures seen { AreLooksSeen F.Files files.old files.new result }
     ensures named { IfErr result (IsOfPath path.now) }
-    // Also where memory is refused, the look failed.
-    ensures failed { OnErr result (LookFailed F.Files path.now files.old files.new
-        × GrowsBy 1 (F.failed files.old) (F.failed files.new)) }
     ensures same { F.tells → KeepsAll (F.bytes_at files.old) (F.bytes_at files.new) }
     ensures untraced { F.whole → Makes [] (F.trace files.old) (F.trace files.new)
         (F.bytes_at files.old) (F.bytes_at files.new) }

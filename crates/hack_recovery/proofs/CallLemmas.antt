@@ -58,10 +58,10 @@ course-known f l u j talks records watched real ws vs e d files lockfiles unkept
 -- a call that goes on plainly: one that is to restore does nothing but say so, and any other is performed
 pub plain_course : {F L U J : Type 0} (f : Filing F) (l : Filing L) (u : Noting U) (j : Filing J) (talks records watched : Type 0) (real : Name → Name) (words : List Name) (env : Env) (does : Edits) (places : PlacesAt) (standing : Standing) (left restores : Bool) (old at new : Scene)
     → is_restore does ≡ restores → Begins f.tells records real words env does places left old.files → IsAdmitted records does places.folder left old.locks at.locks (Ok (Plain standing)) → Untouched f.tells f.whole old at → GrowsBy 0 old.files.failed at.files.failed
-    → at.host.term ≡ old.host.term → at.streams ≡ old.streams → (is_restore does ≡ true → (new ≡ scene_with at.files at.host.term new.streams.err at) × SaysUnrestored old.host.term.coloring env.by_guard left old.streams.err new.streams.err)
+    → at.host.term ≡ old.host.term → at.streams ≡ old.streams → (is_restore does ≡ true → (new ≡ scene_with at.files new.host.term new.streams.err at) × SaysUnrestored env.by_guard left old.host.term new.host.term old.streams.err new.streams.err)
     → (is_restore does ≡ false → (term : Term) × (err : Stream) × SaysStanding standing old.host.term term old.streams.err err × PerformsUnjournaled f talks words env (scene_with at.files term err at) new) → IsCallCourse f l u j talks records watched real words env old new
 plain_course f l u j talks records watched real words env does places standing left true old at new is begins admitted untouched counted term streams same ran =
-    let ended : Scene → Type 0 = λ (x : Scene). Untouched f.tells f.whole old x × GrowsBy 0 old.files.failed x.files.failed × IsAdmitted records does places.folder left old.locks x.locks (Ok (Plain standing)) × (x.host.term ≡ old.host.term) in
+    let ended : Scene → Type 0 = λ (x : Scene). Untouched f.tells f.whole old x × GrowsBy 0 old.files.failed x.files.failed × IsAdmitted records does places.folder left old.locks x.locks (Ok (Plain standing)) in
     let still = subst ended (sym (same is).0) (
       record {
         files = untouched.files;
@@ -75,9 +75,8 @@ plain_course f l u j talks records watched real words env does places standing l
       },
       counted,
       admitted,
-      term,
     ) in
-    unrestored does places standing (record { left = left; begins = begins; admitted = still.2; untouched = still.0; counted = still.1 }) is still.3 (same is).1
+    unrestored does places standing (record { left = left; begins = begins; admitted = still.2; untouched = still.0; counted = still.1 }) is (same is).1
 plain_course f l u j talks records watched real words env does places standing left false old at new is begins admitted untouched counted term streams same ran =
     let r = ran is in
     without_journal does places standing at r.0 r.1 (record { left = left; begins = begins; admitted = admitted; untouched = untouched; counted = counted }) is term streams r.2 r.3

@@ -1,18 +1,8 @@
--- Which call of files failed.
-use Rattle.std.proofs.Common.{◌≡◌, ℕ, Bool, List, refl, true}
-use Rattle.std.specs.Prelude.{Err, IsSome, None, Ok, Option, Result, Some, is_some}
-use Rattle.std.specs.Result.{is_err}
-use Rattle.hack_base.specs.Names.{Name}
-use Rattle.hack_files.specs.Files.{refused_path}
-use Rattle.hack_files.specs.declared.fs.Files.{Ghosts as Filing}
-use Rattle.hack_journal.specs.Refusing.{IsRefused}
+-- What a look at a path tells.
+use Rattle.std.proofs.Common.{◌≡◌, ℕ, Bool, List, refl}
+use Rattle.std.specs.Prelude.{◌↔◌, IsSome, IsTrue, None, Option, Some, false}
 
--- the path whose write was refused
-pub refused_by : {F T E : Type 0} (f : Filing F) (path : Name) (old new : F) (r : Result T E) → is_err r ≡ true → f.refuses old new (refused_path r path) → IsRefused f path
-refused_by f path old new (Ok v) failed h = cc
-refused_by f path old new (Err e) failed h = record { before = old; after = new; refused = h }
-
--- where something is there, it is some
-pub some_there : (o : Option (List ℕ)) (there : Bool) → there ≡ true → there ≡ is_some o → IsSome o
-some_there None there on h = cc
-some_there (Some x) there on h = refl
+-- where nothing is there, it is none
+pub none_seen : (o : Option (List ℕ)) (there : Bool) → there ≡ false → IsTrue there ↔ IsSome o → o ≡ None
+none_seen None there off h = refl
+none_seen (Some x) there off h = let on = h.1 refl in cc

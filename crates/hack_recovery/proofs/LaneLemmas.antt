@@ -14,13 +14,14 @@ use Rattle.hack_term.specs.declared.term.Term.{Term}
 use Rattle.hack_words.specs.declared.cli.env.Env.{Env}
 use Rattle.hack_places.specs.CallPlaces.{PlacesAt}
 use Rattle.hack_words.specs.Edits.{is_restore}
-use Rattle.hack_recovery.specs.CallCourses.{IsCopyTold, IsJournalClosed}
+use Rattle.hack_recovery.specs.CallCourses.{IsCopyEnded, IsCopyTold, IsCopyToldIf, IsJournalClosed}
+use Rattle.hack_recovery.specs.CallCourses.IsCopyDropped.{gone, refused}
 use Rattle.hack_recovery.specs.CallCourses.IsCopyTold.{absent, there, unsure}
-use Rattle.hack_recovery.specs.CallCourses.IsJournalClosed.{copy_kept, copy_stays, gone, stays, unseen}
+use Rattle.hack_recovery.specs.CallCourses.IsJournalClosed.{ended, stays, unseen}
 use Rattle.hack_recovery.specs.LaneCalls.{AsksToRestore, CallsInLanes, over_journal, plain, unperformed}
 use Rattle.hack_recovery.specs.Ready.{Both, GetReady}
 use Rattle.hack_recovery.specs.Ready.GetReady.{copied, further, looked_at, taken_back}
-use Rattle.hack_recovery.specs.Telling.{IsStarved, Warns}
+use Rattle.hack_recovery.specs.Telling.{Warns}
 use Rattle.hack_words.specs.declared.cli.edits.Edits.{Edits}
 use Rattle.hack_words.specs.declared.cli.edits.Edits.TheVariants as edits
 
@@ -33,25 +34,29 @@ restore_is edits.Restore on = refl
 pub ready_now : {F L : Type 0} (f : Filing F) (l : Filing L) (env : Env) (Own : PlacesAt → Type 0) (both : Both) → GetReady f l env Own both both
 ready_now f l env Own both = looked_at (record { same = λ t q. refl; untraced = λ w. makes_none _ _ }) refl
 
-starved_quiet : (was now : Term) (err now_err : Stream) → IsStarved was now err now_err → now.error ≡ false → was.error ≡ false
-starved_quiet was now err now_err cut quiet = let e : true ≡ false = ap (λ (t : Term). t.error) (sym cut.0) ∙ quiet in cc
-
 -- where the end of a journal reported no error, none was reported before
 warned_quiet : (text : Name) (was now : Term) (err now_err : Stream) → Warns text was now err now_err → now.error ≡ false → was.error ≡ false
-warned_quiet text was now err now_err (inl warned) quiet = ap (λ (t : Term). t.error) (sym warned.0) ∙ quiet
-warned_quiet text was now err now_err (inr cut) quiet = starved_quiet was now err now_err cut quiet
+warned_quiet text was now err now_err warned quiet = ap (λ (t : Term). t.error) (sym warned.0) ∙ quiet
 
-copy_quiet : {F : Type 0} (f : Filing F) (copy : Name) (old new : FilesView) (was now : Term) (err now_err : Stream) → IsCopyTold f copy old new was now err now_err → now.error ≡ false → was.error ≡ false
-copy_quiet f copy old new was now err now_err (there warns counted has same) quiet = warned_quiet _ was now err now_err warns quiet
-copy_quiet f copy old new was now err now_err (unsure warns counted seen same) quiet = warned_quiet _ was now err now_err warns quiet
-copy_quiet f copy old new was now err now_err (absent same silent counted none kept) quiet = ap (λ (t : Term). t.error) (sym same) ∙ quiet
+module _ {F : Type 0} (f : Filing F) (copy : Name) (old new : FilesView) (was now : Term) (err now_err : Stream) where
+  told_quiet : IsCopyTold f copy old new was now err now_err → now.error ≡ false → was.error ≡ false
+  told_quiet (there warns counted has same) quiet = warned_quiet _ was now err now_err warns quiet
+  told_quiet (unsure warns counted seen same) quiet = warned_quiet _ was now err now_err warns quiet
+  told_quiet (absent same silent counted none kept) quiet = ap (λ (t : Term). t.error) (sym same) ∙ quiet
+
+  told_if_quiet : (unwritten : Bool) → IsCopyToldIf f unwritten copy old new was now err now_err → now.error ≡ false → was.error ≡ false
+  told_if_quiet true told quiet = told_quiet told quiet
+  told_if_quiet false told quiet = ap (λ (t : Term). t.error) (sym told.1) ∙ quiet
+
+  ended_quiet : (unwritten : Bool) → IsCopyEnded f unwritten copy old new was now err now_err → now.error ≡ false → was.error ≡ false
+  ended_quiet true told quiet = told_quiet told quiet
+  ended_quiet false (gone same silent counted none) quiet = ap (λ (t : Term). t.error) (sym same) ∙ quiet
+  ended_quiet false (refused warns counted cause) quiet = warned_quiet _ was now err now_err warns quiet
 
 pub closed_quiet : {F : Type 0} (f : Filing F) (places : PlacesAt) (unwritten : Bool) (old new : FilesView) (was now : Term) (err now_err : Stream) → IsJournalClosed f places unwritten old new was now err now_err → now.error ≡ false → was.error ≡ false
-closed_quiet f places unwritten old new was now err now_err (gone written same silent counted journal copy) quiet = ap (λ (t : Term). t.error) (sym same) ∙ quiet
-closed_quiet f places unwritten old new was now err now_err (stays warns counted journal same) quiet = warned_quiet _ was now err now_err warns quiet
-closed_quiet f places unwritten old new was now err now_err (unseen warns counted journal same) quiet = warned_quiet _ was now err now_err warns quiet
-closed_quiet f places unwritten old new was now err now_err (copy_stays written warns counted refused journal) quiet = warned_quiet _ was now err now_err warns quiet
-closed_quiet f places unwritten old new was now err now_err (copy_kept mid doubted counted journal same told) quiet = copy_quiet f places.copy mid new was now err now_err told quiet
+closed_quiet f places unwritten old new was now err now_err (ended mid counted journal same told) quiet = ended_quiet f places.copy mid new was now err now_err unwritten told quiet
+closed_quiet f places unwritten old new was now err now_err (stays mid term said warns counted journal same told) quiet = warned_quiet _ was term err said warns (told_if_quiet f places.copy mid new term now said now_err unwritten told quiet)
+closed_quiet f places unwritten old new was now err now_err (unseen mid term said warns counted journal same told) quiet = warned_quiet _ was term err said warns (told_if_quiet f places.copy mid new term now said now_err unwritten told quiet)
 
 module _ {S : Type 0} (did : List Event → S → S → Type 0) (course : S → S → Type 0) (talks : Type 0) (calls : S → List Call) where
   -- what `run` promises of lanes, where no error is reported and where one is

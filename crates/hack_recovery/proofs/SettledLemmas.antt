@@ -1,7 +1,6 @@
 -- What is said of a lockfile and its copy.
-use Rattle.std.proofs.Common.{◌≡◌, ◌∙◌, ◌∷◌, [], ℕ, Bool, List, ap, false, inl, inr, true}
-use Rattle.std.specs.Prelude.{Err, Ok, Option, Result, Some, option_map}
-use Rattle.std.specs.Bool.{then_some}
+use Rattle.std.proofs.Common.{◌≡◌, ◌∷◌, [], ℕ, Bool, List, false, inl, inr, true}
+use Rattle.std.specs.Prelude.{Err, Ok, Result}
 use Rattle.hack_base.specs.Counters.{GrowsBy}
 use Rattle.hack_base.specs.Names.{Name}
 use Rattle.hack_base.specs.Streams.{Stream}
@@ -22,11 +21,6 @@ looked_one f path old new counted h = record { counted = counted; cause = inl (r
 pub refused_one : {F : Type 0} (f : Filing F) (path : Name) (start : ℕ) (old new : F) → GrowsBy 0 start (f.failed old) → GrowsBy 1 (f.failed old) (f.failed new) → f.refuses old new (path ∷ []) → OneFailedAt f path start (f.failed new)
 refused_one f path start old new none counted h = record { counted = grows_then 1 start (f.failed old) (f.failed new) none counted; cause = inr (record { before = old; after = new; refused = h }) }
 
--- the text of a copy that is kept
-pub kept_known : {A : Type 0} (text_of : A → List ℕ) (kept : Option A) (unwritten : Bool) (copy : A) (known : List ℕ) → kept ≡ then_some unwritten copy → text_of copy ≡ known → option_map text_of kept ≡ then_some unwritten known
-kept_known text_of kept true copy known is same = ap (option_map text_of) is ∙ ap Some same
-kept_known text_of kept false copy known is same = ap (option_map text_of) is
-
 -- where it isn't done, that was said
 pub if_not_done : (one : Type 0) (coloring : Coloring) (path : Name) (came : Result Bool CallFault) (old new : Stream) → one → SaysFailed coloring path came old new → SaysIfNotDone one coloring path came old new
 if_not_done one coloring path (Ok true) old new h said = absurd said
@@ -42,11 +36,11 @@ since_one one other coloring path (Err fault) old new so said = (so said.0, said
 module _ {F : Type 0} (f : Filing F) (by_guard : Bool) (coloring : Coloring) (dir path : Name) where
   pub of_lockfile : (bytes : List ℕ) (was now : FilesView) (came : Result Bool CallFault) (old new : Stream) → OneFailedAt f path was.failed now.failed → SaysFailed coloring path came old new → SaysOfLockfile f by_guard coloring dir path bytes was now came old new
   of_lockfile bytes was now (Ok true) old new one said = absurd said
-  of_lockfile bytes was now (Ok false) old new one said = inl (one, said)
-  of_lockfile bytes was now (Err fault) old new one said = inl (one, said)
+  of_lockfile bytes was now (Ok false) old new one said = (one, said)
+  of_lockfile bytes was now (Err fault) old new one said = (one, said)
 
   -- by a test of whether it is done
-  pub undone : (bytes : List ℕ) (was now : FilesView) (done : Bool) (old new : Stream) → done ≡ false → SaysOfLockfile f by_guard coloring dir path bytes was now (Ok done) old new → SaysUnsettled f by_guard coloring path was.failed now.failed (Ok false) old new
+  pub undone : (bytes : List ℕ) (was now : FilesView) (done : Bool) (old new : Stream) → done ≡ false → SaysOfLockfile f by_guard coloring dir path bytes was now (Ok done) old new → SaysUnsettled f coloring path was.failed now.failed (Ok false) old new
   undone bytes was now true old new off said = cc
   undone bytes was now false old new off said = said
 

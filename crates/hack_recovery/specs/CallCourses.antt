@@ -1,6 +1,5 @@
 -- The ways that a call can go.
 use Rattle.std.specs.Prelude.{◌≡◌, ◌⊎◌, ℕ, Bool, true, false, if◌then◌else◌, not, nat_eq, IsSome, List, None, Ok, Err, Option, Result, string_bytes}
-use Rattle.std.specs.Bool.{then_some}
 use Rattle.hack_base.specs.Counters.{GrowsBy}
 use Rattle.hack_base.specs.Names.{Name}
 use Rattle.hack_base.specs.Streams.{Stream}
@@ -37,7 +36,7 @@ use Rattle.hack_places.specs.CallPlaces.{ArePlacesOf, PlacesAt, is_left}
 use Rattle.hack_places.specs.FileLooks.{Unchanged}
 use Rattle.hack_places.specs.Folders.{folders, package_from, start_at, workspace_around}
 use Rattle.hack_places.specs.LookedPaths.{IsPackageLook, IsPlaceLook, IsRepositoryLook, IsWorkspaceLook}
-use Rattle.hack_recovery.specs.FailedFiles.{RefusesThese}
+use Rattle.hack_recovery.specs.FailedFiles.{RefusesThese, TellsRefusals}
 use Rattle.hack_recovery.specs.GuardEvents.{GuardsView, after_leave, after_start}
 use Rattle.hack_recovery.specs.LockEvents.{LocksView, after_release}
 use Rattle.hack_recovery.specs.Restoring.{KeepsCopy, TakesBack, journal_spot}
@@ -184,23 +183,34 @@ pub record Journals {F L U J : Type 0} (f : Filing F) (l : Filing L) (u : Noting
 -- what is told of a copy that is as it was: that it stays; that it may, where a look at it failed; nothing where none is
 -- there
 pub data IsCopyTold {F : Type 0} (f : Filing F) (copy : Name) (old new : FilesView) (was now : Term) (err now_err : Stream) : Type 0 where
-  there : Warns (stay_text copy copy_keeps None) was now err now_err → GrowsBy 0 old.failed new.failed → (f.tells → IsSome (old.held copy)) → Unchanged f.tells f.whole old new → IsCopyTold f copy old new was now err now_err
-  unsure : Warns (stay_text copy copy_may_keep None) was now err now_err → GrowsBy 1 old.failed new.failed → IsUnseen f copy → Unchanged f.tells f.whole old new → IsCopyTold f copy old new was now err now_err
+  there : Warns (stay_text copy copy_keeps) was now err now_err → GrowsBy 0 old.failed new.failed → (f.tells → IsSome (old.held copy)) → Unchanged f.tells f.whole old new → IsCopyTold f copy old new was now err now_err
+  unsure : Warns (stay_text copy copy_may_keep) was now err now_err → GrowsBy 1 old.failed new.failed → IsUnseen f copy → Unchanged f.tells f.whole old new → IsCopyTold f copy old new was now err now_err
   absent : now ≡ was → now_err ≡ err → GrowsBy 0 old.failed new.failed → (f.tells → old.held copy ≡ None) → Unchanged f.tells f.whole old new → IsCopyTold f copy old new was now err now_err
 
--- after it no file is at the journal's path, and the lockfile's copy is gone; or one of them stays, or
--- a look at the journal failed, which is reported as a warning; the copy is as it was, and told, where a journal stays
--- or the lockfile may be unwritten
+-- the same where a write of a lockfile was refused; else the copy isn't looked at, and nothing is said
+abbrev pub IsCopyToldIf : {F : Type 0} → Filing F → Bool → Name → FilesView → FilesView → Term → Term → Stream → Stream → Type 0
+IsCopyToldIf f true copy old new was now err now_err = IsCopyTold f copy old new was now err now_err
+IsCopyToldIf f false copy old new was now err now_err = (new ≡ old) × (now ≡ was) × (now_err ≡ err)
+
+-- a copy is gone; or its removal was refused, which is warned of
+pub data IsCopyDropped {F : Type 0} (f : Filing F) (copy : Name) (old new : FilesView) (was now : Term) (err now_err : Stream) : Type 0 where
+  gone : now ≡ was → now_err ≡ err → GrowsBy 0 old.failed new.failed → (f.tells → new.held copy ≡ None) → IsCopyDropped f copy old new was now err now_err
+  refused : Warns (stay_text copy copy_left) was now err now_err → GrowsBy 1 old.failed new.failed → IsRefused f copy → IsCopyDropped f copy old new was now err now_err
+
+-- so it is, unless a write of a lockfile was refused: then it is as it was, and told
+abbrev pub IsCopyEnded : {F : Type 0} → Filing F → Bool → Name → FilesView → FilesView → Term → Term → Stream → Stream → Type 0
+IsCopyEnded f true copy old new was now err now_err = IsCopyTold f copy old new was now err now_err
+IsCopyEnded f false copy old new was now err now_err = IsCopyDropped f copy old new was now err now_err
+
+-- no file was at the journal's path, and the lockfile's copy came to its end; or a journal stays, or a look at it failed,
+-- which is a warning, and the copy is as it was
 pub data IsJournalClosed {F : Type 0} (f : Filing F) (places : PlacesAt) (unwritten : Bool) (old new : FilesView) (was now : Term) (err now_err : Stream) : Type 0 where
-  gone : unwritten ≡ false → now ≡ was → now_err ≡ err → GrowsBy 0 old.failed new.failed → (f.tells → old.held places.journal ≡ None) → (f.tells → new.held places.copy ≡ None) → IsJournalClosed f places unwritten old new was now err now_err
-  stays : Warns (stay_text places.journal journal_stays (then_some unwritten places.copy)) was now err now_err → GrowsBy 0 old.failed new.failed → (f.tells → IsSome (old.held places.journal)) → Unchanged f.tells f.whole old new
-      → IsJournalClosed f places unwritten old new was now err now_err
-  unseen : Warns (stay_text places.journal journal_may_stay (then_some unwritten places.copy)) was now err now_err → GrowsBy 1 old.failed new.failed → IsUnseen f places.journal → Unchanged f.tells f.whole old new
-      → IsJournalClosed f places unwritten old new was now err now_err
-  copy_stays : unwritten ≡ false → Warns (stay_text places.copy copy_left None) was now err now_err → GrowsBy 1 old.failed new.failed → IsRefused f places.copy → (f.tells → old.held places.journal ≡ None)
-      → IsJournalClosed f places unwritten old new was now err now_err
-  copy_kept : (mid : FilesView) → unwritten ≡ true → GrowsBy 0 old.failed mid.failed → (f.tells → old.held places.journal ≡ None) → Unchanged f.tells f.whole old mid → IsCopyTold f places.copy mid new was now err now_err
-      → IsJournalClosed f places unwritten old new was now err now_err
+  ended : (mid : FilesView) → GrowsBy 0 old.failed mid.failed → (f.tells → old.held places.journal ≡ None) → Unchanged f.tells f.whole old mid
+      → IsCopyEnded f unwritten places.copy mid new was now err now_err → IsJournalClosed f places unwritten old new was now err now_err
+  stays : (mid : FilesView) (term : Term) (said : Stream) → Warns (stay_text places.journal journal_stays) was term err said → GrowsBy 0 old.failed mid.failed → (f.tells → IsSome (old.held places.journal)) → Unchanged f.tells f.whole old mid
+      → IsCopyToldIf f unwritten places.copy mid new term now said now_err → IsJournalClosed f places unwritten old new was now err now_err
+  unseen : (mid : FilesView) (term : Term) (said : Stream) → Warns (stay_text places.journal journal_may_stay) was term err said → GrowsBy 1 old.failed mid.failed → IsUnseen f places.journal → Unchanged f.tells f.whole old mid
+      → IsCopyToldIf f unwritten places.copy mid new term now said now_err → IsJournalClosed f places unwritten old new was now err now_err
 
 -- after it no other file than the lockfile's copy is changed, and what stays was reported
 pub record Closes {F : Type 0} (f : Filing F) (places : PlacesAt) (unwritten : Bool) (old new : Scene) : Type 0 where
@@ -212,22 +222,26 @@ pub record Closes {F : Type 0} (f : Filing F) (places : PlacesAt) (unwritten : B
 
 -- ---- the ways
 
--- the call was performed with a journal, whether that refused an edit was said, and what stays of it was reported; the
--- lockfile's copy stays where a call of the lockfiles failed, since the lockfile may be unwritten
+-- the call was performed with a journal, whether that refused something was said, and what stays of it was reported; where
+-- no journal stays, the lockfile's copy is kept just where a write of a lockfile was refused
 pub record RunsOverJournal {F L U J : Type 0} (f : Filing F) (l : Filing L) (u : Noting U) (j : Filing J) (talks : Type 0) (words : List Name) (env : Env) (places : PlacesAt) (old new : Scene) : Type 0 where
   pub failed : ℕ
   pub last : Scene
   pub err : Stream
   pub journals : Journals f l u j talks words env (journal_spot places) failed old last
   pub unkept : SaysUnkept (not (nat_eq old.unkept last.unkept)) last.host.term.coloring places.journal last.streams.err err
-  pub closes : Closes f places (not (nat_eq old.lockfiles.failed last.lockfiles.failed)) (scene_with last.files last.host.term err last) new
+  pub unwritten : Bool
+  pub refused : TellsRefusals l old.lockfiles last.lockfiles unwritten
+  pub closes : Closes f places unwritten (scene_with last.files last.host.term err last) new
 
 -- how a call with a journal goes once its guard was asked for: the lockfile is copied, and then it is
--- performed; or the lockfile can't be copied for this reason, and nothing else is changed or called
+-- performed; or the lockfile can't be copied, which is reported, or memory was refused, and nothing else is changed or
+-- called
 pub data CopiesAndRuns {F L U J : Type 0} (f : Filing F) (l : Filing L) (u : Noting U) (j : Filing J) (talks : Type 0) (words : List Name) (env : Env) (places : PlacesAt) (old new : Scene) : Type 0 where
-  copied : (at : Scene) → KeepsCopy f l places (Ok tt) old at → RunsOverJournal f l u j talks words env places at new
+  copied : (at : Scene) → KeepsCopy f l places (Ok true) old at → RunsOverJournal f l u j talks words env places at new
       → CopiesAndRuns f l u j talks words env places old new
-  uncopied : (at : Scene) (fault : CallFault) → KeepsCopy f l places (Err fault) old at → Refuses fault at new
+  uncopied : KeepsCopy f l places (Ok false) old new → CopiesAndRuns f l u j talks words env places old new
+  starved : (at : Scene) (fault : CallFault) → KeepsCopy f l places (Err fault) old at → Refuses fault at new
       → CopiesAndRuns f l u j talks words env places old new
 
 -- how a call with a journal goes: a guard of the workspace's folder is asked for, and whatever came of
@@ -283,9 +297,10 @@ pub data IsCallCourse {F L U J : Type 0} (f : Filing F) (l : Filing L) (u : Noti
   -- another call has the lock, there is none, or memory was refused: nothing was changed or called
   turned_away : (does : Edits) (places : PlacesAt) (fault : CallFault) → DecidesHowToGoOn f.tells f.whole records real words env does places old new (Err fault) → IsToldWhy fault old new
       → IsCallCourse f l u j talks records watched real words env old new
-  -- it is to restore, and nothing is left, or another call has the lock: nothing was changed or called
+  -- it is to restore, and nothing is left, or another call has the lock, which is an error unless a guard calls: nothing
+  -- was changed or called
   unrestored : (does : Edits) (places : PlacesAt) (standing : Standing) (decides : DecidesHowToGoOn f.tells f.whole records real words env does places old new (Ok (Plain standing))) → is_restore does ≡ true
-      → new.host.term ≡ old.host.term → SaysUnrestored old.host.term.coloring env.by_guard decides.left old.streams.err new.streams.err → IsCallCourse f l u j talks records watched real words env old new
+      → SaysUnrestored env.by_guard decides.left old.host.term new.host.term old.streams.err new.streams.err → IsCallCourse f l u j talks records watched real words env old new
   -- nothing is to be guarded, or nothing can be: the call is performed without a journal, after it was said whose
   -- edits may stand
   without_journal : (does : Edits) (places : PlacesAt) (standing : Standing) (at : Scene) (term : Term) (err : Stream) → DecidesHowToGoOn f.tells f.whole records real words env does places old at (Ok (Plain standing)) → is_restore does ≡ false

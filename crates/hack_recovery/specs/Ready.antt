@@ -20,5 +20,5 @@ both_in scene = (scene.files, scene.lockfiles)
 pub data GetReady {F L : Type 0} (f : Filing F) (l : Filing L) (env : Env) (Own : PlacesAt → Type 0) : Both → Both → Type 0 where
   looked_at : {old new : Both} → Unchanged f.tells f.whole old.0 new.0 → new.1 ≡ old.1 → GetReady f l env Own old new
   taken_back : {old new : Both} → (places : PlacesAt) → Own places → (first last : Scene) → TakesBack f l env places first last (Ok true) → both_in first ≡ old → both_in last ≡ new → GetReady f l env Own old new
-  copied : {old new : Both} → (places : PlacesAt) → Own places → (first last : Scene) → KeepsCopy f l places (Ok tt) first last → both_in first ≡ old → both_in last ≡ new → GetReady f l env Own old new
+  copied : {old new : Both} → (places : PlacesAt) → Own places → (first last : Scene) → KeepsCopy f l places (Ok true) first last → both_in first ≡ old → both_in last ≡ new → GetReady f l env Own old new
   further : {old new : Both} → (mid : Both) → GetReady f l env Own old mid → GetReady f l env Own mid new → GetReady f l env Own old new

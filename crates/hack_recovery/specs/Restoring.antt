@@ -1,5 +1,5 @@
 -- What becomes of what an interrupted call left.
-use Rattle.std.specs.Prelude.{◌≡◌, ◌≢◌, ◌⊎◌, [], ℕ, Bool, true, false, List, OnErr, OnOk, Option, Some, None, Ok, Err, Result, codes, string_bytes, if◌then◌else◌}
+use Rattle.std.specs.Prelude.{◌≡◌, ◌≢◌, ◌⊎◌, [], ℕ, Bool, true, false, List, Option, Some, None, Ok, Err, Result, codes, string_bytes, if◌then◌else◌}
 use Rattle.std.specs.Option.{option_or}
 use Rattle.hack_base.specs.Counters.{GrowsBy}
 use Rattle.hack_base.specs.Names.{Name}
@@ -22,11 +22,11 @@ use Rattle.hack_base.specs.PathTexts.{join_of}
 use Rattle.hack_places.specs.CallPlaces.{PlacesAt}
 use Rattle.hack_places.specs.Folders.{leaves_out}
 use Rattle.hack_places.specs.FileLooks.{Unchanged}
-use Rattle.hack_recovery.specs.FailedFiles.{FailsBetween, OneFailedAt}
+use Rattle.hack_recovery.specs.FailedFiles.{FailsBetween, NoneFailedBetween, OneFailedAt}
 use Rattle.hack_recovery.specs.Scenes.{IsQuiet, OneMayFail, Scene, scene_with}
-use Rattle.hack_recovery.specs.Telling.{SaysFault, SaysRestored, SaysSettling, SaysStranger, SaysUncopied, Tells}
+use Rattle.hack_recovery.specs.Telling.{SaysFailed, SaysFault, SaysRestored, SaysSettling, SaysStranger, Tells}
 use Rattle.hack_recovery.specs.declared.fault.CallFault.{CallFault}
-use Rattle.hack_recovery.specs.declared.fault.CallFault.TheVariants.{Memory, Busy, NoCopy, Unlocked}
+use Rattle.hack_recovery.specs.declared.fault.CallFault.TheVariants.{Memory}
 
 -- ---- a journal
 
@@ -40,14 +40,15 @@ StaysNearer tells whole spot old new = tells → whole → AfterEachFront (Comes
 
 -- what it keeps was brought back, also where a write was cut: these paths held something else, and the
 -- journal is gone
-pub record Recovers (tells whole : Type 0) (spot : Spot) (paths : List Name) (old new : FilesView) : Type 0 where
+pub record Recovers {F : Type 0} (f : Filing F) (spot : Spot) (paths : List Name) (old new : FilesView) : Type 0 where
   pub failures : GrowsBy 0 old.failed new.failed
-  pub restored : tells → IsRestored spot paths old.held new.held
-  pub still : IsStill tells whole spot old new
-  pub nearer : StaysNearer tells whole spot old new
-  pub comes_back : tells → (first : Contents) → IsSafeOrCut spot first old.held → KeepsAll first new.held
-  pub safe : tells → whole → (first : Contents) → IsSafe spot first old.held → StaysSafe spot first old.trace new.trace old.held new.held
-  pub safe_after_cut : tells → whole → (first : Contents) → IsSafeOrCut spot first old.held → StaysSafeOrCut spot first old.trace new.trace old.held new.held
+  pub none : NoneFailedBetween f old new
+  pub restored : f.tells → IsRestored spot paths old.held new.held
+  pub still : IsStill f.tells f.whole spot old new
+  pub nearer : StaysNearer f.tells f.whole spot old new
+  pub comes_back : f.tells → (first : Contents) → IsSafeOrCut spot first old.held → KeepsAll first new.held
+  pub safe : f.tells → f.whole → (first : Contents) → IsSafe spot first old.held → StaysSafe spot first old.trace new.trace old.held new.held
+  pub safe_after_cut : f.tells → f.whole → (first : Contents) → IsSafeOrCut spot first old.held → StaysSafeOrCut spot first old.trace new.trace old.held new.held
 
 -- it could not be brought back, or not all of it: the error says why, what isn't back is still in the
 -- journal, and no path was changed but the row's and those of its entries, where each held what a call
@@ -72,7 +73,7 @@ IsToldAs fault came = came ≢ Ok true
 -- what came of bringing it back: it is, and a line is said for each path; or why it isn't, unless memory is refused
 -- for that
 pub data IsBroughtBack {F : Type 0} (f : Filing F) (spot : Spot) (dir : Name) (coloring : Coloring) (old new : FilesView) (err now_err : Stream) (came : Result Bool CallFault) : Type 0 where
-  brought : (paths : List Name) → Recovers f.tells f.whole spot paths old new → came ≡ Ok true → SaysRestored coloring dir paths err now_err
+  brought : (paths : List Name) → Recovers f spot paths old new → came ≡ Ok true → SaysRestored coloring dir paths err now_err
       → IsBroughtBack f spot dir coloring old new err now_err came
   stopped : (fault : RecoverFault) → FailsToRestore f spot fault old new → IsToldAs fault came → SaysFault coloring fault came err now_err
       → IsBroughtBack f spot dir coloring old new err now_err came
@@ -85,9 +86,9 @@ pub data Restores {F : Type 0} (f : Filing F) (spot : Spot) (dir : Name) (old ne
   unread : (fault : RecoverFault) → Unchanged f.tells f.whole old new → CountsRecoverFault old.failed new.failed fault → FailsBetween f (IsReached spot f.tells old.held) fault old new → IsWhyUnread spot f.tells old.held fault
       → (f.tells → (first : Contents) → IsSafeOrCut spot first old.held → came ≡ Ok false → GrowsBy 1 old.failed new.failed) → IsToldAs fault came → Tells was now came
       → SaysFault was.coloring fault came err now_err → Restores f spot dir old new was now err now_err came
-  strange : (path : Name) → Unchanged f.tells f.whole old new → GrowsBy 0 old.failed new.failed → (f.tells → NamesStranger spot old.held path) → (f.tells → (first : Contents) → ¬ IsSafeOrCut spot first old.held) → came ≢ Ok true → Tells was now came
+  strange : (path : Name) → Unchanged f.tells f.whole old new → GrowsBy 0 old.failed new.failed → NoneFailedBetween f old new → (f.tells → NamesStranger spot old.held path) → (f.tells → (first : Contents) → ¬ IsSafeOrCut spot first old.held) → came ≢ Ok true → Tells was now came
       → SaysStranger was.coloring spot.journal path came err now_err → Restores f spot dir old new was now err now_err came
-  trusted : (at : FilesView) → Unchanged f.tells f.whole old at → GrowsBy 0 old.failed at.failed → (f.tells → NamesNone spot old.held) → IsBroughtBack f spot dir was.coloring at new err now_err came → Tells was now came
+  trusted : (at : FilesView) → Unchanged f.tells f.whole old at → GrowsBy 0 old.failed at.failed → NoneFailedBetween f old at → (f.tells → NamesNone spot old.held) → IsBroughtBack f spot dir was.coloring at new err now_err came → Tells was now came
       → Restores f spot dir old new was now err now_err came
 
 -- ---- the copy of the lockfile
@@ -97,49 +98,42 @@ module _ {F L : Type 0} (f : Filing F) (l : Filing L) (places : PlacesAt) where
   -- manifest was left unseen that says whether the lockfile is that of the call's package
   abbrev pub FailsToCopy : Name → ℕ → ℕ → ℕ → ℕ → Type 0
   FailsToCopy path before now first last =
-      ((path ≡ places.lockfile) × GrowsBy 1 first last × IsUnseen l path)
-      ⊎ (((path ≡ places.copy) × GrowsBy 1 before now × IsRefused f path) ⊎ ((path ≡ join_of places.found (codes "Cargo.toml")) × GrowsBy 1 before now × IsUnseen f path))
+      ((path ≡ places.lockfile) × GrowsBy 0 before now × GrowsBy 1 first last × IsUnseen l path)
+      ⊎ (GrowsBy 1 before now × GrowsBy 0 first last × (((path ≡ places.copy) × IsRefused f path) ⊎ ((path ≡ join_of places.found (codes "Cargo.toml")) × IsUnseen f path)))
 
-  -- why the lockfile isn't copied; where memory was refused, also a look at that manifest may have failed
-  abbrev pub IsWhyUncopied : Name → ℕ → ℕ → ℕ → ℕ → CallFault → Type 0
-  IsWhyUncopied path before now first last Memory = FailsToCopy path before now first last ⊎ (OneMayFail before now × GrowsBy 0 first last)
-  IsWhyUncopied path before now first last Busy = ⊥
-  IsWhyUncopied path before now first last Unlocked = ⊥
-  IsWhyUncopied path before now first last NoCopy = FailsToCopy path before now first last
-
-  -- nothing is said where it is copied, or need not be; else why it isn't, with the path that failed
-  abbrev pub EndsCopying : Coloring → ℕ → ℕ → ℕ → ℕ → Result (Unit {0}) CallFault → Stream → Stream → Type 0
-  EndsCopying coloring before now first last (Ok done) old new = new ≡ old
-  EndsCopying coloring before now first last (Err fault) old new = (path : Name) × IsWhyUncopied path before now first last fault × SaysUncopied coloring path fault old new
+  -- nothing is said where the lockfile is copied, or need not be, and no call failed; nor where memory was refused, also
+  -- after such a call, or another look; else which call failed
+  abbrev pub EndsCopying : Coloring → ℕ → ℕ → ℕ → ℕ → Result Bool CallFault → Stream → Stream → Type 0
+  EndsCopying coloring before now first last (Ok true) old new = GrowsBy 0 before now × GrowsBy 0 first last × (new ≡ old)
+  EndsCopying coloring before now first last (Ok false) old new = (path : Name) × FailsToCopy path before now first last × SaysFailed coloring path (Ok false) old new
+  EndsCopying coloring before now first last (Err fault) old new =
+      (((path : Name) × FailsToCopy path before now first last) ⊎ (OneMayFail before now × GrowsBy 0 first last)) × (new ≡ old)
 
   -- what the lockfile's copy is to hold: what the lockfile does, if there is one, unless the workspace leaves out the
   -- call's package, which has a lockfile of its own; else what it held
   abbrev pub copy_of : Contents → Contents → Option (List ℕ)
   copy_of held lockfiles = if leaves_out held places.found places.pkg_dir then held places.copy else option_or (lockfiles places.lockfile) (held places.copy)
 
-  -- the lockfile was copied, no other file is changed, and no call failed; where it isn't done, there is a cause,
-  -- and nothing is changed, unless the copy's own write was refused: even then it is whole, or as it was
-  pub record KeepsCopy (came : Result (Unit {0}) CallFault) (old new : Scene) : Type 0 where
-    pub copied : OnOk came (f.tells → l.tells → new.files.held places.copy ≡ copy_of old.files.held old.lockfiles.held)
+  -- the lockfile was copied, and no other file is changed; where it isn't done, a call failed, which is reported, or memory was refused, and nothing is changed, unless the copy's own write was refused: even then it
+  -- is whole, or as it was
+  pub record KeepsCopy (came : Result Bool CallFault) (old new : Scene) : Type 0 where
+    pub copied : came ≡ Ok true → f.tells → l.tells → new.files.held places.copy ≡ copy_of old.files.held old.lockfiles.held
     pub others : f.tells → KeepsOthers places.copy old.files.held new.files.held
-    pub counted : OnOk came (GrowsBy 0 old.files.failed new.files.failed × GrowsBy 0 old.lockfiles.failed new.lockfiles.failed)
-    pub failed : OneMayFail old.files.failed new.files.failed × OneMayFail old.lockfiles.failed new.lockfiles.failed
     pub made : f.whole → Makes [] old.files.trace new.files.trace old.files.held new.files.held
         ⊎ ((bytes : Name) × (f.tells → leaves_out old.files.held places.found places.pkg_dir ≡ false) × (l.tells → old.lockfiles.held places.lockfile ≡ Some bytes) × MakesOrNot (puts places.copy bytes) old.files.trace new.files.trace old.files.held new.files.held)
-    pub undone : OnErr came (Unchanged f.tells f.whole old.files new.files ⊎ IsRefused f places.copy)
+    pub undone : came ≢ Ok true → Unchanged f.tells f.whole old.files new.files ⊎ IsRefused f places.copy
     pub same : Unchanged l.tells l.whole old.lockfiles new.lockfiles
-    pub host : new.host ≡ old.host
+    pub told : Tells old.host.term new.host.term came
     pub ends : EndsCopying old.host.term.coloring old.files.failed new.files.failed old.lockfiles.failed new.lockfiles.failed came old.streams.err new.streams.err
     pub quiet : IsQuiet old new
 
   -- the copy is gone, no other file is changed, and no call failed; the guard gives the lockfile what the
   -- copy has, and nobody else changes it. Whatever comes of it, the copy still has that or the lockfile has
   -- it; the lockfile holds what it held, or that, unless its own write was refused; and at most one call of
-  -- each failed. Where it isn't done, one did, at the copy or at the lockfile
+  -- each failed; where it isn't done, what is said tells which
   pub record Settles (env : Env) (old new : Scene) (came : Result Bool CallFault) : Type 0 where
     pub gone : came ≡ Ok true → f.tells → new.files.held places.copy ≡ None
     pub counted : came ≡ Ok true → GrowsBy 0 old.files.failed new.files.failed × GrowsBy 0 old.lockfiles.failed new.lockfiles.failed
-    pub why : came ≡ Ok false → OneFailedAt f places.copy old.files.failed new.files.failed ⊎ OneFailedAt l places.lockfile old.lockfiles.failed new.lockfiles.failed
     pub failed : OneMayFail old.files.failed new.files.failed × OneMayFail old.lockfiles.failed new.lockfiles.failed
     pub others : f.tells → KeepsOthers places.copy old.files.held new.files.held
     pub made : f.whole → MakesOrNot (removes places.copy) old.files.trace new.files.trace old.files.held new.files.held

@@ -1,5 +1,5 @@
 -- What is said, and recorded, of a step that may report an error.
-use Rattle.std.specs.Prelude.{◌≡◌, ◌≢◌, ◌⊎◌, ℕ, Bool, true, false, List, [], ◌∷◌, MatchBool, None, Option, Some, Result, Ok, Err, codes}
+use Rattle.std.specs.Prelude.{◌≡◌, ◌≢◌, ℕ, Bool, true, false, List, [], ◌∷◌, MatchBool, None, Option, Some, Result, Ok, Err}
 use Rattle.hack_base.specs.Counters.{GrowsBy}
 use Rattle.hack_base.specs.Names.{Name}
 use Rattle.hack_base.specs.Streams.{Stream, WritesText}
@@ -15,9 +15,9 @@ use Rattle.hack_places.specs.CallPlaces.{PlacesAt}
 use Rattle.hack_recovery.specs.FailedFiles.{OneFailedAt}
 use Rattle.hack_recovery.specs.declared.admit.Standing.{Standing}
 use Rattle.hack_recovery.specs.declared.admit.Standing.TheVariants.{Nobodys, Anothers, Interrupted}
-use Rattle.hack_recovery.specs.Texts.{beside_text, left_text, restored_text, row_text, short_restored_text, short_unkept_text, short_unsure_text, stranger_text, unkept_text, unknown_text, unlocked_text, unrestored_text, unseen_text, unsettled_text, unsure_text, unwatched_text}
+use Rattle.hack_recovery.specs.Texts.{beside_text, left_text, nothing_left_text, restored_text, row_text, stranger_text, unkept_text, unlocked_text, unrestored_text, unseen_text, unsettled_text, unsure_text, unwatched_text}
 use Rattle.hack_recovery.specs.declared.fault.CallFault.{CallFault}
-use Rattle.hack_recovery.specs.declared.fault.CallFault.TheVariants.{Memory, Busy, Unlocked, NoCopy}
+use Rattle.hack_recovery.specs.declared.fault.CallFault.TheVariants.{Memory}
 use Rattle.hack_term.specs.Lines.{error_line, info_line, warning_line}
 use Rattle.hack_term.specs.declared.term.Coloring.{Coloring}
 use Rattle.hack_term.specs.declared.term.Term.{Term}
@@ -62,10 +62,9 @@ SaysStranger coloring journal path (Ok false) old new =
     (mid : Stream) × WritesText (info_line coloring row_text) old mid × WritesText (error_line coloring (stranger_text journal path)) mid new
 SaysStranger coloring journal path (Err refused) old new = new ≡ old
 
--- a file was restored, which is named unless memory was refused for that
+-- a file was restored
 abbrev pub SaysFileRestored : Coloring → Name → Name → Stream → Stream → Type 0
-SaysFileRestored coloring dir path old new =
-    WritesText (info_line coloring (restored_text dir path)) old new ⊎ WritesText (info_line coloring short_restored_text) old new
+SaysFileRestored coloring dir path old new = WritesText (info_line coloring (restored_text dir path)) old new
 
 -- these files were restored: a line for each
 abbrev pub SaysRestored : Coloring → Name → List Name → Stream → Stream → Type 0
@@ -74,20 +73,12 @@ SaysRestored coloring dir (path ∷ paths) old new = (mid : Stream) × SaysFileR
 
 -- ---- the lockfile and its copy
 
--- why it isn't copied: the system's words, and the path that failed, unless memory is refused for that
-abbrev pub SaysUncopied : Coloring → Name → CallFault → Stream → Stream → Type 0
-SaysUncopied coloring path Memory old new = new ≡ old
-SaysUncopied coloring path Busy old new = ⊥
-SaysUncopied coloring path Unlocked old new = ⊥
-SaysUncopied coloring path NoCopy old new =
-    (mid : Stream) × SaysReason coloring old mid × (WritesText (info_line coloring (unsettled_text path)) mid new ⊎ (new ≡ mid))
-
--- a call at this path failed: the system's words, and the error, unless memory was refused for it
+-- a call at this path failed: the system's words, if it has any, and the error; nothing is said where memory was refused
 abbrev pub SaysFailed : Coloring → Name → Result Bool CallFault → Stream → Stream → Type 0
 SaysFailed coloring path (Ok true) old new = ⊥
 SaysFailed coloring path (Ok false) old new =
     (mid : Stream) × SaysReason coloring old mid × WritesText (error_line coloring (unsettled_text path)) mid new
-SaysFailed coloring path (Err refused) old new = SaysReason coloring old new
+SaysFailed coloring path (Err refused) old new = new ≡ old
 
 -- what is said of a lockfile that isn't what its copy is: the guard restored it, and any other call left it
 abbrev pub SaysLockfile : Bool → Coloring → Name → Name → Stream → Stream → Type 0
@@ -105,17 +96,15 @@ SaysIfNotDone one coloring path (Ok true) old new = new ≡ old
 SaysIfNotDone one coloring path (Ok false) old new = one × SaysFailed coloring path (Ok false) old new
 SaysIfNotDone one coloring path (Err fault) old new = one × SaysFailed coloring path (Err fault) old new
 
--- such a call of these files failed, and that was said; or, where the lockfile is left, memory was refused for the
--- line on it, and nothing was said
-abbrev pub SaysUnsettled : {F : Type 0} → Filing F → Bool → Coloring → Name → ℕ → ℕ → Result Bool CallFault → Stream → Stream → Type 0
-SaysUnsettled f by_guard coloring path before now came old new =
-    (OneFailedAt f path before now × SaysFailed coloring path came old new) ⊎ ((by_guard ≡ false) × (came ≡ Err Memory) × (new ≡ old))
+-- such a call of these files failed, and that was said
+abbrev pub SaysUnsettled : {F : Type 0} → Filing F → Coloring → Name → ℕ → ℕ → Result Bool CallFault → Stream → Stream → Type 0
+SaysUnsettled f coloring path before now came old new = OneFailedAt f path before now × SaysFailed coloring path came old new
 
 -- where it is done, what is said of a lockfile, unless it held these bytes; else why it isn't
 abbrev pub SaysOfLockfile : {F : Type 0} → Filing F → Bool → Coloring → Name → Name → List ℕ → FilesView → FilesView → Result Bool CallFault → Stream → Stream → Type 0
 SaysOfLockfile f by_guard coloring dir path bytes was now (Ok true) old new = SaysIfOther by_guard coloring dir path f.tells (was.held path) bytes old new
-SaysOfLockfile f by_guard coloring dir path bytes was now (Ok false) old new = SaysUnsettled f by_guard coloring path was.failed now.failed (Ok false) old new
-SaysOfLockfile f by_guard coloring dir path bytes was now (Err fault) old new = SaysUnsettled f by_guard coloring path was.failed now.failed (Err fault) old new
+SaysOfLockfile f by_guard coloring dir path bytes was now (Ok false) old new = SaysUnsettled f coloring path was.failed now.failed (Ok false) old new
+SaysOfLockfile f by_guard coloring dir path bytes was now (Err fault) old new = SaysUnsettled f coloring path was.failed now.failed (Err fault) old new
 
 -- What is said of a copy of the lockfile: nothing, where none is there; that a look at it failed; why the lockfile can't be
 -- looked at or written, and then the copy stays; or what became of the lockfile, and then that the copy can't be removed, if
@@ -127,7 +116,7 @@ pub data SaysSettling {F L : Type 0} (f : Filing F) (l : Filing L) (places : Pla
   unseen : GrowsBy 1 files.failed files_now.failed → IsUnseen f places.copy → SaysFailed coloring places.copy came old new
       → SaysSettling f l places by_guard dir coloring files files_now lockfiles lockfiles_now came old new
   unsettled : (bytes : List ℕ) → (f.tells → files.held places.copy ≡ Some bytes) → (f.tells → files_now.held places.copy ≡ Some bytes) → GrowsBy 0 files.failed files_now.failed
-      → SaysUnsettled l by_guard coloring places.lockfile lockfiles.failed lockfiles_now.failed came old new
+      → SaysUnsettled l coloring places.lockfile lockfiles.failed lockfiles_now.failed came old new
       → SaysSettling f l places by_guard dir coloring files files_now lockfiles lockfiles_now came old new
   settled : (bytes : List ℕ) (mid : Stream) → (f.tells → files.held places.copy ≡ Some bytes) → GrowsBy 0 lockfiles.failed lockfiles_now.failed
       → SaysIfOther by_guard coloring dir places.lockfile l.tells (lockfiles.held places.lockfile) bytes old mid
@@ -136,20 +125,20 @@ pub data SaysSettling {F L : Type 0} (f : Filing F) (l : Filing L) (places : Pla
 
 -- ---- why a call isn't performed, or how
 
--- a path can't be looked at: the system's words, and then its error, or, where memory was refused for that, one that says so
+-- a path can't be looked at: the system's words, if it has any, and then its error
 abbrev pub SaysUnseen : Coloring → Name → Stream → Stream → Type 0
-SaysUnseen coloring path old new = (mid : Stream) × SaysReason coloring old mid
-    × (WritesText (error_line coloring (unseen_text path)) mid new ⊎ WritesText (error_line coloring (codes "out of memory")) mid new)
+SaysUnseen coloring path old new = (mid : Stream) × SaysReason coloring old mid × WritesText (error_line coloring (unseen_text path)) mid new
 
--- the same, and then a warning, or, where memory was refused for that, one without the path
+-- the same, and then a warning
 abbrev pub SaysUnsure : Coloring → Name → Stream → Stream → Type 0
-SaysUnsure coloring path old new = (mid : Stream) × SaysReason coloring old mid
-    × (WritesText (warning_line coloring (unsure_text path)) mid new ⊎ WritesText (warning_line coloring short_unsure_text) mid new)
+SaysUnsure coloring path old new = (mid : Stream) × SaysReason coloring old mid × WritesText (warning_line coloring (unsure_text path)) mid new
 
--- why nothing is restored, by whether something is left; a guard says nothing, since nobody reads it
-abbrev pub SaysUnrestored : Coloring → Bool → Bool → Stream → Stream → Type 0
-SaysUnrestored coloring true left old new = new ≡ old
-SaysUnrestored coloring false left old new = WritesText (info_line coloring (unrestored_text left)) old new
+-- why nothing is restored: nothing is left, or, which is an error, another call has what is; a guard says nothing, since
+-- nobody reads it
+abbrev pub SaysUnrestored : Bool → Bool → Term → Term → Stream → Stream → Type 0
+SaysUnrestored true left was now old new = (now ≡ was) × (new ≡ old)
+SaysUnrestored false true was now old new = (now ≡ record was { error = true }) × WritesText (error_line was.coloring unrestored_text) old new
+SaysUnrestored false false was now old new = (now ≡ was) × WritesText (info_line was.coloring nothing_left_text) old new
 
 -- where no guard watches, that is said
 abbrev pub SaysWatched : Coloring → Bool → Stream → Stream → Type 0
@@ -158,22 +147,11 @@ SaysWatched coloring false old new = WritesText (info_line coloring unwatched_te
 
 -- ---- what stays
 
--- memory was refused for a warning: that is an error besides
-abbrev pub IsStarved : Term → Term → Stream → Stream → Type 0
-IsStarved was now old new = (now ≡ record was { warn = true; error = true })
-    × (mid : Stream) × WritesText (warning_line was.coloring unknown_text) old mid × WritesText (error_line was.coloring (codes "out of memory")) mid new
-
--- it was warned of this, unless memory was refused for that
+-- it was warned of this
 abbrev pub Warns : Name → Term → Term → Stream → Stream → Type 0
-Warns text was now old new =
-    ((now ≡ record was { warn = true }) × WritesText (warning_line was.coloring text) old new) ⊎ IsStarved was now old new
+Warns text was now old new = (now ≡ record was { warn = true }) × WritesText (warning_line was.coloring text) old new
 
--- an edit was refused for the journal, which is named unless memory was refused for that
-abbrev pub SaysRefused : Coloring → Name → Stream → Stream → Type 0
-SaysRefused coloring journal old new =
-    WritesText (info_line coloring (unkept_text journal)) old new ⊎ WritesText (info_line coloring short_unkept_text) old new
-
--- just where it was, that is said
+-- just where the journal refused something, that is said: an edit, since no call reads the journal's own files
 abbrev pub SaysUnkept : Bool → Coloring → Name → Stream → Stream → Type 0
 SaysUnkept false coloring journal old new = new ≡ old
-SaysUnkept true coloring journal old new = SaysRefused coloring journal old new
+SaysUnkept true coloring journal old new = WritesText (info_line coloring (unkept_text journal)) old new

@@ -1,9 +1,9 @@
 -- What a call says of its own, beside what `run` says.
-use Rattle.std.specs.Prelude.{◌++◌, Bool, true, false, Option, Some, None, codes}
+use Rattle.std.specs.Prelude.{◌++◌, codes}
 use Rattle.hack_base.specs.Names.{Name}
 use Rattle.hack_base.specs.PathTexts.{under_of}
 use Rattle.hack_recovery.specs.declared.fault.CallFault.{CallFault}
-use Rattle.hack_recovery.specs.declared.fault.CallFault.TheVariants.{Memory, Busy, Unlocked, NoCopy}
+use Rattle.hack_recovery.specs.declared.fault.CallFault.TheVariants.{Memory, Busy, Unlocked}
 
 -- ---- why a call isn't performed
 
@@ -12,18 +12,14 @@ abbrev pub text_of_fault : CallFault → Name
 text_of_fault Memory = codes "out of memory"
 text_of_fault Busy = codes "another call is editing the manifests of this workspace"
 text_of_fault Unlocked = codes "there is a journal of edited manifests, and the folder of the workspace can't be locked"
-text_of_fault NoCopy = codes "the lockfile can't be copied to where the journal lies"
 
 -- this path can't be looked at
 abbrev pub unseen_text : Name → Name
 unseen_text path = codes "failed to read from file `" ++ (path ++ codes "`")
 
--- the same, where the call goes on; and what is said where memory is refused for that
+-- the same, where the call goes on
 abbrev pub unsure_text : Name → Name
 unsure_text path = codes "failed to read from file `" ++ (path ++ codes "`: edits of an interrupted call may stand")
-
-abbrev pub short_unsure_text : Name
-short_unsure_text = codes "edits of an interrupted call may stand"
 
 -- another call edits manifests meanwhile
 abbrev pub beside_text : Name
@@ -33,10 +29,12 @@ beside_text = codes "another call is editing the manifests of this workspace: th
 abbrev pub unlocked_text : Name
 unlocked_text = codes "edits of an interrupted call may stand: the folder of the workspace can't be locked"
 
--- why nothing is restored, by whether something is left
-abbrev pub unrestored_text : Bool → Name
-unrestored_text true = codes "another call is editing the manifests of this workspace, and restores them"
-unrestored_text false = codes "nothing is left to restore"
+-- why nothing is restored: another call has what is left, or nothing is left
+abbrev pub unrestored_text : Name
+unrestored_text = codes "another call is editing the manifests of this workspace, and restores them"
+
+abbrev pub nothing_left_text : Name
+nothing_left_text = codes "nothing is left to restore"
 
 -- nobody restores the manifests where the call ends early
 abbrev pub unwatched_text : Name
@@ -47,10 +45,6 @@ unwatched_text = codes "no guard could be started: where this call is interrupte
 -- a file was restored; paths are shown from the current folder
 abbrev pub restored_text : Name → Name → Name
 restored_text dir path = codes "restored `" ++ (under_of path dir ++ codes "` after an interrupted call")
-
--- the same where memory is refused for that
-abbrev pub short_restored_text : Name
-short_restored_text = codes "restored a file after an interrupted call"
 
 -- a lockfile isn't what its copy is
 abbrev pub left_text : Name → Name → Name
@@ -70,34 +64,25 @@ unsettled_text path = codes "failed to read or write file `" ++ (path ++ codes "
 
 -- ---- what stays
 
--- a path stays, and what comes of it; and where what the lockfile held may be
-abbrev pub stay_text : Name → Name → Option Name → Name
-stay_text path how None = codes "`" ++ (path ++ (codes "` " ++ how))
-stay_text path how (Some copy) = codes "`" ++ (path ++ (codes "` " ++ (how ++ (codes "; what the lockfile held may be in `" ++ (copy ++ codes "`")))))
+-- a path stays, and what comes of it
+abbrev pub stay_text : Name → Name → Name
+stay_text path how = codes "`" ++ (path ++ how)
 
 abbrev pub journal_stays : Name
-journal_stays = codes "stays: the next call brings back what it tells"
+journal_stays = codes "` stays: the next call brings back what it tells"
 
 abbrev pub journal_may_stay : Name
-journal_may_stay = codes "may stay: then the next call brings back what it tells"
+journal_may_stay = codes "` may stay: then the next call brings back what it tells"
 
 abbrev pub copy_left : Name
-copy_left = codes "stays: the next call removes it"
+copy_left = codes "` stays: the next call removes it"
 
 abbrev pub copy_keeps : Name
-copy_keeps = codes "stays: it has what the lockfile held, and the next call removes it"
+copy_keeps = codes "` stays: it has what the lockfile held, and the next call removes it"
 
 abbrev pub copy_may_keep : Name
-copy_may_keep = codes "may stay: then it has what the lockfile held, and the next call removes it"
-
--- where memory is refused for that
-abbrev pub unknown_text : Name
-unknown_text = codes "what a journal keeps may stay: the next call looks after it"
+copy_may_keep = codes "` may stay: then it has what the lockfile held, and the next call removes it"
 
 -- an edit was refused for the journal
 abbrev pub unkept_text : Name → Name
 unkept_text journal = codes "an edit was refused, since what it replaces can't be kept in `" ++ (journal ++ codes "`")
-
--- the same without the journal
-abbrev pub short_unkept_text : Name
-short_unkept_text = codes "an edit was refused, since what it replaces can't be kept"

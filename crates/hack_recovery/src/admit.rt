@@ -27,8 +27,8 @@ pub enum Standing {
     Interrupted,
 }
 
-/// How a call may go on that does this to manifests, where an interrupted call of its workspace left
-/// something or didn't. Takes the lock of the folder, unless there is nothing to guard.
+/// How a call may go on that does this to manifests, where an interrupted call of its workspace
+/// left something or didn't. Takes the lock of the folder, unless there is nothing to guard.
 pub fn admit<K: Locks>(
     alloc: Global,
     edits: Edits,

@@ -15,8 +15,8 @@ use hack_versions::rustup::Rustup;
 use hack_words::cli::{CliFault, Edits, Env, Parsed, wants_rustup};
 use std::alloc::{AllocError, Global};
 
-/// What a command line asks for: whether it only prints, what is done to manifests, and the one that
-/// it names.
+/// What a command line asks for: whether it only prints, what is done to manifests, and the one
+/// that it names.
 #[derive(Drop)]
 pub struct Asked {
     /// Whether it asks for a text or cargo's list, for which no manifest matters.
@@ -28,8 +28,8 @@ pub struct Asked {
 }
 
 impl Asked {
-    /// What this command line asks for. One that is refused, or that asks for a text or cargo's list,
-    /// does nothing to manifests.
+    /// What this command line asks for. One that is refused, or that asks for a text or cargo's
+    /// list, does nothing to manifests.
     pub fn of(alloc: Global, words: &[String], env: &Env) -> Result<Asked, AllocError>
         ensures prints { IfOk result (λ asked. AsksToPrint env.now (names_of words.now)
             asked.prints) }

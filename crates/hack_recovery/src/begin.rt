@@ -1,5 +1,5 @@
-//! The beginning of a call: what it asks for, where its journal lies, and whether an interrupted call
-//! left anything.
+//! The beginning of a call: what it asks for, where its journal lies, and whether an interrupted
+//! call left anything.
 
 ghost use Rattle.std.specs.Prelude.{◌≡◌, [], IfErr, IfOk, IfSome, OnOk, option_map};
 ghost use Rattle.std.specs.Prelude.{string_bytes};
@@ -44,8 +44,8 @@ pub(crate) struct Begun {
 #[derive(Drop)]
 pub(crate) enum Halt {
     Memory,
-    /// It asks for a text or cargo's list: nothing was looked at. The command line is read into this,
-    /// unless an argument needs rustup's version.
+    /// It asks for a text or cargo's list: nothing was looked at. The command line is read into
+    /// this, unless an argument needs rustup's version.
     Prints(Option<Reading>),
     /// This path can't be looked at, so it isn't known whether an interrupted call left anything.
     Unseen { asked: Asked, path: String },
@@ -148,8 +148,9 @@ struct Folders {
     found: String,
 }
 
-/// The folders of the package and of the workspace. What a guard calls is called in the workspace's, so that it
-/// also finds the journal where the workspace's manifest was cut or is reached by a link.
+/// The folders of the package and of the workspace. What a guard calls is called in the
+/// workspace's, so that it also finds the journal where the workspace's manifest was cut or is
+/// reached by a link.
 #[tactic(auto, using(hack_places::proofs::LookLemmas::look_steps))]
 fn folders_of<F: Files>(
     alloc: Global,

@@ -13,8 +13,6 @@ pub enum CallFault {
     Busy,
     /// An interrupted call left a journal, and the folder of the workspace can't be locked.
     Unlocked,
-    /// The lockfile can't be read, or not be copied to where the journal lies.
-    NoCopy,
 }
 
 impl CallFault {
@@ -28,7 +26,6 @@ impl CallFault {
             CallFault::Unlocked => {
                 "there is a journal of edited manifests, and the folder of the workspace can't be locked"
             }
-            CallFault::NoCopy => "the lockfile can't be copied to where the journal lies",
         }
     }
 }

@@ -95,7 +95,14 @@ impl Guards for FakeGuards {
       status = guards.status;
     } };
 
-    fn start(&mut self, alloc: Global, folder: &str) -> Result<bool, AllocError> {
+    fn start(&mut self, alloc: Global, folder: &str) -> Result<bool, AllocError>
+        ensures started { IfOk result (λ watches. ⟦<FakeGuards as Guards>⟧.shown self.new
+            ≡ after_start folder.now watches (⟦<FakeGuards as Guards>⟧.shown self.old)) }
+        ensures refused { OnErr result
+            (⟦<FakeGuards as Guards>⟧.shown self.new ≡ ⟦<FakeGuards as Guards>⟧.shown self.old) }
+        ensures answer { IfOk result (λ watches. watches ≡ self.old.comes) }
+        ensures comes { self.new.comes ≡ self.old.comes }
+    {
         let folder = String::from_str(alloc, folder)?;
         let watches = self.comes;
         self.starts.push(GuardStart { folder, watches })?;
@@ -104,7 +111,11 @@ impl Guards for FakeGuards {
         Ok(watches)
     }
 
-    fn leave(&mut self, status: u8) {
+    fn leave(&mut self, status: u8)
+        ensures left { ⟦<FakeGuards as Guards>⟧.shown self.new
+            ≡ after_leave status (⟦<FakeGuards as Guards>⟧.shown self.old) }
+        ensures comes { self.new.comes ≡ self.old.comes }
+    {
         if self.is_watching {
             self.is_watching = false;
             self.status = Some(status);

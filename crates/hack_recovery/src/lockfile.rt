@@ -4,7 +4,7 @@
 //! A guard acts at once, so it gives the lockfile back what the copy has. Any later call can't tell
 //! cargo's change from a person's, so it leaves the lockfile as it is.
 
-ghost use Rattle.std.specs.Prelude.{◌≡◌, ◌≢◌, ◌⊎◌, [], Err, None, Ok, OnErr, OnOk, Some, false};
+ghost use Rattle.std.specs.Prelude.{◌≡◌, ◌≢◌, ◌⊎◌, [], None, Ok, Some, false};
 ghost use Rattle.std.specs.Prelude.{string_bytes, true};
 ghost use Rattle.std.specs.Option.{option_or};
 ghost use Rattle.hack_base.specs.Streams.{stream_of};
@@ -17,11 +17,10 @@ ghost use Rattle.hack_journal.specs.Refusing.{IsRefused};
 ghost use Rattle.hack_places.specs.FileLooks.{Unchanged};
 ghost use Rattle.hack_places.specs.Folders.{leaves_out};
 ghost use Rattle.hack_places.specs.PlacesView.{places_view};
-ghost use Rattle.hack_recovery.specs.FailedFiles.{OneFailedAt};
 ghost use Rattle.hack_recovery.specs.Restoring.{EndsCopying, copy_of};
 ghost use Rattle.hack_recovery.specs.Scenes.{OneMayFail};
 ghost use Rattle.hack_recovery.specs.Telling.{SaysFailed, SaysIfNotDone, SaysOfLockfile};
-ghost use Rattle.hack_recovery.specs.Telling.{SaysSettling, SaysUncopied, Tells};
+ghost use Rattle.hack_recovery.specs.Telling.{SaysSettling, Tells};
 ghost use Rattle.hack_files.specs.View.{files_view};
 ghost use Rattle.hack_run.specs.Worlds.{IsSameHost, host_view};
 
@@ -41,30 +40,26 @@ use hack_run::host::Host;
 use hack_term::term::Term;
 use std::alloc::Global;
 
-/// Copies the lockfile, if there is one, unless the workspace leaves out the call's package. Where that can't be
-/// done, the system's reason is reported, and the path.
+/// Copies the lockfile, if there is one, unless the workspace leaves out the call's package.
+/// Returns whether that is done; if not, an error was reported.
 #[tactic(auto, using(crate::proofs::CountLemmas::counts))]
 pub(crate) fn keep_copy<F: Files, L: Files, E: Sink>(
     alloc: Global,
     places: &Places,
     files: &mut F,
     lockfiles: &mut L,
-    term: &Term,
+    term: &mut Term,
     err: &mut E,
-) -> Result<(), CallFault>
-    ensures copied { OnOk result (F.tells → L.tells
+) -> Result<bool, CallFault>
+    ensures told { Tells term.old term.new result }
+    ensures copied { result ≡ Ok true → F.tells → L.tells
         → F.bytes_at files.new (string_bytes places.now.copy)
         ≡ copy_of F.Files L.Files (places_view places.now)
-        (F.bytes_at files.old) (L.bytes_at lockfiles.old)) }
-    ensures ends { EndsCopying F.Files L.Files (places_view places.now) term.now.coloring
+        (F.bytes_at files.old) (L.bytes_at lockfiles.old) }
+    ensures ends { EndsCopying F.Files L.Files (places_view places.now) term.old.coloring
         (F.failed files.old) (F.failed files.new)
         (L.failed lockfiles.old) (L.failed lockfiles.new) result
         (stream_of E.Sink err.old) (stream_of E.Sink err.new) }
-    ensures counted { OnOk result (GrowsBy 0 (F.failed files.old) (F.failed files.new)) }
-    ensures lockfiles_counted { OnOk result
-        (GrowsBy 0 (L.failed lockfiles.old) (L.failed lockfiles.new)) }
-    ensures failed { OneMayFail (F.failed files.old) (F.failed files.new) }
-    ensures lockfiles_failed { OneMayFail (L.failed lockfiles.old) (L.failed lockfiles.new) }
     ensures others { F.tells → KeepsOthers (string_bytes places.now.copy)
         (F.bytes_at files.old) (F.bytes_at files.new) }
     ensures made { F.whole → Makes [] (F.trace files.old) (F.trace files.new)
@@ -75,20 +70,20 @@ pub(crate) fn keep_copy<F: Files, L: Files, E: Sink>(
         (string_bytes places.now.lockfile) ≡ Some bytes)
         × MakesOrNot (puts (string_bytes places.now.copy) bytes)
         (F.trace files.old) (F.trace files.new) (F.bytes_at files.old) (F.bytes_at files.new)) }
-    ensures undone { OnErr result (Unchanged F.tells F.whole
+    ensures undone { result ≢ Ok true → Unchanged F.tells F.whole
         (files_view F.Files files.old) (files_view F.Files files.new)
-        ⊎ IsRefused F.Files (string_bytes places.now.copy)) }
+        ⊎ IsRefused F.Files (string_bytes places.now.copy) }
     ensures same { L.tells → KeepsAll (L.bytes_at lockfiles.old) (L.bytes_at lockfiles.new) }
     ensures untraced { L.whole → Makes [] (L.trace lockfiles.old) (L.trace lockfiles.new)
         (L.bytes_at lockfiles.old) (L.bytes_at lockfiles.new) }
 {
     match leaves_out(alloc, places.found.as_str(), places.pkg_dir.as_str(), files) {
-        Ok(true) => Ok(()),
+        Ok(true) => Ok(true),
         Ok(false) => copy_lockfile(alloc, places, files, lockfiles, term, err),
         Err(LookFault::Memory) => Err(CallFault::Memory),
         Err(LookFault::Device(path)) => {
-            tell_uncopied(alloc, path.as_str(), files, term, err);
-            Err(CallFault::NoCopy)
+            tell_failed(alloc, path.as_str(), files, term, err);
+            Ok(false)
         }
     }
 }
@@ -100,22 +95,18 @@ fn copy_lockfile<F: Files, L: Files, E: Sink>(
     places: &Places,
     files: &mut F,
     lockfiles: &mut L,
-    term: &Term,
+    term: &mut Term,
     err: &mut E,
-) -> Result<(), CallFault>
-    ensures copied { OnOk result (F.tells → L.tells
+) -> Result<bool, CallFault>
+    ensures told { Tells term.old term.new result }
+    ensures copied { result ≡ Ok true → F.tells → L.tells
         → F.bytes_at files.new (string_bytes places.now.copy)
         ≡ option_or (L.bytes_at lockfiles.old (string_bytes places.now.lockfile))
-        (F.bytes_at files.old (string_bytes places.now.copy))) }
-    ensures ends { EndsCopying F.Files L.Files (places_view places.now) term.now.coloring
+        (F.bytes_at files.old (string_bytes places.now.copy)) }
+    ensures ends { EndsCopying F.Files L.Files (places_view places.now) term.old.coloring
         (F.failed files.old) (F.failed files.new)
         (L.failed lockfiles.old) (L.failed lockfiles.new) result
         (stream_of E.Sink err.old) (stream_of E.Sink err.new) }
-    ensures counted { OnOk result (GrowsBy 0 (F.failed files.old) (F.failed files.new)) }
-    ensures lockfiles_counted { OnOk result
-        (GrowsBy 0 (L.failed lockfiles.old) (L.failed lockfiles.new)) }
-    ensures failed { OneMayFail (F.failed files.old) (F.failed files.new) }
-    ensures lockfiles_failed { OneMayFail (L.failed lockfiles.old) (L.failed lockfiles.new) }
     ensures others { F.tells → KeepsOthers (string_bytes places.now.copy)
         (F.bytes_at files.old) (F.bytes_at files.new) }
     ensures made { F.whole → Makes [] (F.trace files.old) (F.trace files.new)
@@ -124,9 +115,9 @@ fn copy_lockfile<F: Files, L: Files, E: Sink>(
         (string_bytes places.now.lockfile) ≡ Some bytes)
         × MakesOrNot (puts (string_bytes places.now.copy) bytes)
         (F.trace files.old) (F.trace files.new) (F.bytes_at files.old) (F.bytes_at files.new)) }
-    ensures undone { OnErr result (Unchanged F.tells F.whole
+    ensures undone { result ≢ Ok true → Unchanged F.tells F.whole
         (files_view F.Files files.old) (files_view F.Files files.new)
-        ⊎ IsRefused F.Files (string_bytes places.now.copy)) }
+        ⊎ IsRefused F.Files (string_bytes places.now.copy) }
     ensures same { L.tells → KeepsAll (L.bytes_at lockfiles.old) (L.bytes_at lockfiles.new) }
     ensures untraced { L.whole → Makes [] (L.trace lockfiles.old) (L.trace lockfiles.new)
         (L.bytes_at lockfiles.old) (L.bytes_at lockfiles.new) }
@@ -134,45 +125,12 @@ fn copy_lockfile<F: Files, L: Files, E: Sink>(
     let lockfile = places.lockfile.as_str();
     let copy = places.copy.as_str();
     match look(alloc, lockfiles, lockfile) {
-        Ok(None) => Ok(()),
+        Ok(None) => Ok(true),
         Ok(Some(bytes)) => match files.write(copy, &bytes) {
-            Ok(()) => Ok(()),
-            Err(fault) => Err(copy_fault(alloc, copy, fault, files, term, err)),
+            Ok(()) => Ok(true),
+            Err(fault) => tell_fault(alloc, copy, fault, files, term, err),
         },
-        Err(fault) => Err(copy_fault(alloc, lockfile, fault, lockfiles, term, err)),
-    }
-}
-
-/// Reports why these files failed at a path, and returns why the call isn't performed.
-fn copy_fault<F: Files, E: Sink>(
-    alloc: Global,
-    path: &str,
-    fault: FileFault,
-    files: &F,
-    term: &Term,
-    err: &mut E,
-) -> CallFault
-    ensures fault { (result ≡ CallFault.Memory) ⊎ (result ≡ CallFault.NoCopy) }
-    ensures said { SaysUncopied term.now.coloring path.now result
-        (stream_of E.Sink err.old) (stream_of E.Sink err.new) }
-{
-    match fault {
-        FileFault::Memory => CallFault::Memory,
-        FileFault::Device => {
-            tell_uncopied(alloc, path, files, term, err);
-            CallFault::NoCopy
-        }
-    }
-}
-
-/// Says why these files failed, and at which path.
-fn tell_uncopied<F: Files, E: Sink>(alloc: Global, path: &str, files: &F, term: &Term, err: &mut E)
-    ensures { SaysUncopied term.now.coloring path.now CallFault.NoCopy
-        (stream_of E.Sink err.old) (stream_of E.Sink err.new) }
-{
-    tell_reason(alloc, files, term, err);
-    if let Ok(text) = format!(in alloc; "failed to read or write file `{path}`") {
-        let _ = term.info(&text, err);
+        Err(fault) => tell_fault(alloc, lockfile, fault, lockfiles, term, err),
     }
 }
 
@@ -203,12 +161,6 @@ pub(crate) fn settle<F: JournalFiles, L: Files, C: Caller, O: Sink, E: Sink>(
     ensures given { result ≡ Ok true → host.old.env.now.by_guard ≡ true → F.tells → L.tells
         → (bytes : Name) → F.bytes_at files.old (string_bytes places.now.copy) ≡ Some bytes
         → L.bytes_at lockfiles.new (string_bytes places.now.lockfile) ≡ Some bytes }
-
-    // Where it isn't done, a call failed, at the copy or at the lockfile.
-    ensures why { result ≡ Ok false → OneFailedAt F.Files (string_bytes places.now.copy)
-        (F.failed files.old) (F.failed files.new)
-        ⊎ OneFailedAt L.Files (string_bytes places.now.lockfile)
-        (L.failed lockfiles.old) (L.failed lockfiles.new) }
 
     // Whatever comes of it, at most one call of the files failed, and one of the lockfiles; and the
     // guard leaves the copy, or the lockfile has what it had.
@@ -294,8 +246,6 @@ fn give_back<L: Files, C: Caller, O: Sink, E: Sink>(
         ⊎ IsRefused L.Files (string_bytes places.now.lockfile)) }
     ensures counted { result ≡ Ok true
         → GrowsBy 0 (L.failed lockfiles.old) (L.failed lockfiles.new) }
-    ensures why { result ≡ Ok false → OneFailedAt L.Files (string_bytes places.now.lockfile)
-        (L.failed lockfiles.old) (L.failed lockfiles.new) }
     ensures failed { OneMayFail (L.failed lockfiles.old) (L.failed lockfiles.new) }
     ensures apart { L.tells → KeepsOthers (string_bytes places.now.lockfile)
         (L.bytes_at lockfiles.old) (L.bytes_at lockfiles.new) }
@@ -317,8 +267,7 @@ fn give_back<L: Files, C: Caller, O: Sink, E: Sink>(
     match lockfiles.write(path, bytes) {
         Ok(()) if is_back => Ok(true),
         Ok(()) => {
-            let dir = host.env.current_dir.as_str();
-            tell_restored(host.alloc, dir, path, host.term, host.err);
+            tell_restored(host.env.current_dir.as_str(), path, host.term, host.err);
             Ok(true)
         }
         Err(fault) => tell_fault(host.alloc, path, fault, lockfiles, host.term, host.err),
@@ -338,8 +287,6 @@ fn leave<L: Files, C: Caller, O: Sink, E: Sink>(
     ensures told { Tells host.old.term.now host.new.term.now result }
     ensures counted { result ≡ Ok true
         → GrowsBy 0 (L.failed lockfiles.old) (L.failed lockfiles.new) }
-    ensures why { result ≡ Ok false → OneFailedAt L.Files (string_bytes places.now.lockfile)
-        (L.failed lockfiles.old) (L.failed lockfiles.new) }
     ensures failed { OneMayFail (L.failed lockfiles.old) (L.failed lockfiles.new) }
     ensures same { L.tells → KeepsAll (L.bytes_at lockfiles.old) (L.bytes_at lockfiles.new) }
     ensures untraced { L.whole → Makes [] (L.trace lockfiles.old) (L.trace lockfiles.new)
@@ -356,10 +303,8 @@ fn leave<L: Files, C: Caller, O: Sink, E: Sink>(
         Ok(true) => Ok(true),
         Ok(false) => {
             let path = under(path, host.env.current_dir.as_str());
-            let text = format!(in host.alloc;
-                "left `{path}` as it is: in the interrupted call cargo may have changed it"
-            )?;
-            let _ = host.term.info(&text, host.err);
+            let after = "` as it is: in the interrupted call cargo may have changed it";
+            let _ = host.term.info_of("left `", path, after, host.err);
             Ok(true)
         }
         Err(fault) => tell_fault(host.alloc, path, fault, lockfiles, host.term, host.err),
@@ -399,8 +344,6 @@ fn drop_copy<F: JournalFiles, E: Sink>(
     ensures gone { result ≡ Ok true → F.tells
         → F.bytes_at files.new (string_bytes places.now.copy) ≡ None }
     ensures counted { result ≡ Ok true → GrowsBy 0 (F.failed files.old) (F.failed files.new) }
-    ensures why { result ≡ Ok false → OneFailedAt F.Files (string_bytes places.now.copy)
-        (F.failed files.old) (F.failed files.new) }
     ensures failed { OneMayFail (F.failed files.old) (F.failed files.new) }
     ensures others { F.tells → KeepsOthers (string_bytes places.now.copy)
         (F.bytes_at files.old) (F.bytes_at files.new) }
@@ -435,10 +378,24 @@ fn tell_fault<F: Files, E: Sink>(
     match fault {
         FileFault::Memory => Err(CallFault::Memory),
         FileFault::Device => {
-            tell_reason(alloc, files, term, err);
-            let text = format!(in alloc; "failed to read or write file `{path}`")?;
-            let _ = term.error(&text, err);
+            tell_failed(alloc, path, files, term, err);
             Ok(false)
         }
     }
+}
+
+/// Reports why these files failed, and at which path.
+fn tell_failed<F: Files, E: Sink>(
+    alloc: Global,
+    path: &str,
+    files: &F,
+    term: &mut Term,
+    err: &mut E,
+)
+    ensures noted { term.new ≡ record term.old { error = true } }
+    ensures said { SaysFailed term.old.coloring path.now (Ok false)
+        (stream_of E.Sink err.old) (stream_of E.Sink err.new) }
+{
+    tell_reason(alloc, files, term, err);
+    let _ = term.error_of("failed to read or write file `", path, "`", err);
 }

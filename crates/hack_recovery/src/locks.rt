@@ -107,7 +107,14 @@ impl Locks for FakeLocks {
         String::from_str(alloc, folder)
     }
 
-    fn take(&mut self, alloc: Global, folder: &str) -> Result<Holder, AllocError> {
+    fn take(&mut self, alloc: Global, folder: &str) -> Result<Holder, AllocError>
+        ensures taken { IfOk result (λ holder. ⟦<FakeLocks as Locks>⟧.shown self.new
+            ≡ after_asking folder.now holder (⟦<FakeLocks as Locks>⟧.shown self.old)) }
+        ensures refused { OnErr result
+            (⟦<FakeLocks as Locks>⟧.shown self.new ≡ ⟦<FakeLocks as Locks>⟧.shown self.old) }
+        ensures answer { IfOk result (λ holder. holder ≡ self.old.holder) }
+        ensures holder { self.new.holder ≡ self.old.holder }
+    {
         let folder = String::from_str(alloc, folder)?;
         let holder = self.holder;
         self.taken.push(Taken { folder, holder })?;
@@ -115,7 +122,11 @@ impl Locks for FakeLocks {
         Ok(holder)
     }
 
-    fn release(&mut self) {
+    fn release(&mut self)
+        ensures released { ⟦<FakeLocks as Locks>⟧.shown self.new
+            ≡ after_release (⟦<FakeLocks as Locks>⟧.shown self.old) }
+        ensures holder { self.new.holder ≡ self.old.holder }
+    {
         self.is_held = false;
     }
 }

@@ -49,11 +49,11 @@ use hack_term::term::Term;
 use hack_words::cli::Edits;
 
 /// Performs a call as `run` does, and returns its exit status, the files, the lockfiles and
-/// `unkept`. Unless it only prints, it first restores what an interrupted call left edited, where no
-/// other call is running; with `--restore` that is all. Where it edits manifests and restores them
-/// itself, it keeps a journal of its edits, under a lock of its workspace's folder, and a guard
-/// restores them where it ends early. `files` and `lockfiles` are the same file system; `unkept` is
-/// told of what the journal refuses on its own, which a `u64` counts.
+/// `unkept`. Unless it only prints, it first restores what an interrupted call left edited, where
+/// no other call is running; with `--restore` that is all. Where it edits manifests and restores
+/// them itself, it keeps a journal of its edits, under a lock of its workspace's folder, and a
+/// guard restores them where it ends early. `files` and `lockfiles` are the same file system;
+/// `unkept` is told of what the journal refuses on its own, which a `u64` counts.
 pub fn perform<
     F: JournalFiles,
     L: Files,
@@ -141,8 +141,8 @@ fn report<C: Caller, O: Sink, E: Sink>(fault: CallFault, host: &mut Host<'_, C, 
     host.status()
 }
 
-/// Performs a call without a journal, after it is said whose edits may stand. Where it is to restore, there is
-/// nothing that it may.
+/// Performs a call without a journal, after it is said whose edits may stand. Where it is to
+/// restore, there is nothing that it may, which is said.
 fn plainly<F: Files, C: Starts, O: Sink, E: Sink>(
     words: &[String],
     begun: Begun,
@@ -156,9 +156,10 @@ fn plainly<F: Files, C: Starts, O: Sink, E: Sink>(
         (host_view C.Caller O.Sink host.new) result }
     ensures restores { is_restore begun.edits ≡ true
         → (files.new ≡ files.old) × (host_view C.Caller O.Sink host.new
-        ≡ host_view C.Caller O.Sink host.old) }
+        ≡ record (host_view C.Caller O.Sink host.old) { term = host.new.term.now }) }
     ensures said { is_restore begun.edits ≡ true
-        → SaysUnrestored host.old.term.now.coloring host.old.env.now.by_guard begun.is_left
+        → SaysUnrestored host.old.env.now.by_guard begun.is_left
+        host.old.term.now host.new.term.now
         (stream_of E.Sink host.old.err.now) (stream_of E.Sink host.new.err.now) }
     ensures runs { is_restore begun.edits ≡ false → (term : Term) × (err : Stream)
         × SaysStanding standing host.old.term.now term (stream_of E.Sink host.old.err.now) err
@@ -391,7 +392,8 @@ fn copied<F: JournalFiles, L: Files, U: Unkept, C: Starts, O: Sink, E: Sink>(
         host.term,
         host.err,
     ) {
-        Ok(()) => over_journal(words, begun, files, lockfiles, unkept, host),
+        Ok(true) => over_journal(words, begun, files, lockfiles, unkept, host),
+        Ok(false) => (host.status(), files, lockfiles, unkept),
         Err(fault) => (report(fault, host), files, lockfiles, unkept),
     }
 }
@@ -430,18 +432,13 @@ fn over_journal<F: JournalFiles, L: Files, U: Unkept, C: Starts, O: Sink, E: Sin
         reading,
         ..
     } = begun;
-    let before = lockfiles.failures();
     let noted = unkept.count();
-    let (_, files, lockfiles, _, unkept) = run_journaled(
+    let (_, files, lockfiles, _, unkept, unwritten) = run_journaled(
         words, reading, files, lockfiles, place, unkept, host,
     );
     let mut files = files;
     let missed = noted != unkept.count();
-    let journal = places.place.journal.as_str();
-    tell_unkept(host.alloc, journal, missed, host.term, host.err);
-    let unwritten = before != lockfiles.failures();
-    close(
-        host.alloc, &places, unwritten, &mut files, host.term, host.err,
-    );
+    tell_unkept(places.place.journal.as_str(), missed, host.term, host.err);
+    close(&places, unwritten, &mut files, host.term, host.err);
     (host.status(), files, lockfiles, unkept)
 }

@@ -1,6 +1,6 @@
 //! Restores what an interrupted call left edited, and reports it.
 
-ghost use Rattle.std.specs.Prelude.{◌≡◌, ◌≢◌, ◌↔◌, IfOk, IsTrue, Ok, option_and_then};
+ghost use Rattle.std.specs.Prelude.{◌≡◌, ◌≢◌, ◌↔◌, IsTrue, Ok, option_and_then};
 ghost use Rattle.std.specs.Prelude.{option_map, string_bytes, true};
 ghost use Rattle.hack_base.specs.Names.{names_of};
 ghost use Rattle.hack_base.specs.Streams.{stream_of};
@@ -10,7 +10,6 @@ ghost use Rattle.hack_journal.specs.Strangers.{first_stranger};
 ghost use Rattle.hack_recovery.specs.Restoring.{IsBroughtBack, IsToldAs, Restores};
 ghost use Rattle.hack_recovery.specs.Telling.{SaysError, SaysFileRestored, SaysRestored};
 ghost use Rattle.hack_recovery.specs.Telling.{SaysStranger, SaysWhy, Tells};
-ghost use Rattle.hack_recovery.specs.Texts.{restored_text as text_of_restored};
 ghost use Rattle.hack_files.specs.View.{files_view};
 
 use crate::fault::CallFault;
@@ -24,7 +23,7 @@ use hack_journal::recover::{RecoverFault, recover};
 use hack_journal::rows::{Row, row_at};
 use hack_journal::strangers::first_stranger;
 use hack_term::term::Term;
-use std::alloc::{AllocError, Global};
+use std::alloc::Global;
 
 /// What somebody has to know who puts back by hand what a journal tells.
 const ROW: &str =
@@ -108,7 +107,7 @@ fn bring_back<F: JournalFiles, E: Sink>(
 {
     match recover(alloc, files, place) {
         Ok(paths) => {
-            tell_all(alloc, dir, &paths, term, err);
+            tell_all(dir, &paths, term, err);
             Ok(true)
         }
         Err(fault) => {
@@ -119,37 +118,22 @@ fn bring_back<F: JournalFiles, E: Sink>(
 }
 
 /// Reports each file that was restored.
-fn tell_all<E: Sink>(alloc: Global, dir: &str, paths: &[String], term: &Term, err: &mut E)
+fn tell_all<E: Sink>(dir: &str, paths: &[String], term: &Term, err: &mut E)
     ensures { SaysRestored term.now.coloring dir.now (names_of paths.now)
         (stream_of E.Sink err.old) (stream_of E.Sink err.new) }
 {
     for path in paths {
-        tell_restored(alloc, dir, path.as_str(), term, err);
+        tell_restored(dir, path.as_str(), term, err);
     }
 }
 
-/// Reports that a file was restored, by its path from the current folder. It isn't named where memory is
-/// refused: no later call tells of it.
-pub(crate) fn tell_restored<E: Sink>(alloc: Global, dir: &str, path: &str, term: &Term, err: &mut E)
+/// Reports that a file was restored, by its path from the current folder.
+pub(crate) fn tell_restored<E: Sink>(dir: &str, path: &str, term: &Term, err: &mut E)
     ensures { SaysFileRestored term.now.coloring dir.now path.now
         (stream_of E.Sink err.old) (stream_of E.Sink err.new) }
 {
-    match restored_text(alloc, dir, path) {
-        Ok(text) => {
-            let _ = term.info(&text, err);
-        }
-        Err(_) => {
-            let _ = term.info("restored a file after an interrupted call", err);
-        }
-    }
-}
-
-/// That this file was restored.
-fn restored_text(alloc: Global, dir: &str, path: &str) -> Result<String, AllocError>
-    ensures { IfOk result (λ text. string_bytes text ≡ text_of_restored dir.now path.now) }
-{
-    let path = under(path, dir);
-    format!(in alloc; "restored `{path}` after an interrupted call")
+    let after = "` after an interrupted call";
+    let _ = term.info_of("restored `", under(path, dir), after, err);
 }
 
 /// Reports why files can't be restored.
@@ -172,8 +156,8 @@ fn tell_fault<E: Sink>(
     Ok(false)
 }
 
-/// Says before the error of a journal how to put back by hand what it tells, or why a file couldn't be
-/// read or written.
+/// Says before the error of a journal how to put back by hand what it tells, or why a file couldn't
+/// be read or written.
 fn tell_why<F: Files, E: Sink>(
     alloc: Global,
     fault: &RecoverFault,

@@ -1,10 +1,8 @@
-//! What a call says before it is performed: whose edits may stand, why nothing is restored, and that no
-//! guard watches.
+//! What a call says before it is performed: whose edits may stand, why nothing is restored, and
+//! that no guard watches.
 
-ghost use Rattle.std.specs.Prelude.{◌≡◌};
 ghost use Rattle.hack_base.specs.Streams.{stream_of};
 ghost use Rattle.hack_recovery.specs.Telling.{SaysStanding, SaysUnrestored, SaysWatched};
-ghost use Rattle.hack_recovery.specs.Texts.{unrestored_text as text_of_unrestored};
 
 use crate::admit::Standing;
 use hack_base::writes::Sink;
@@ -30,26 +28,21 @@ pub(crate) fn tell_standing<E: Sink>(standing: Standing, term: &mut Term, err: &
     }
 }
 
-/// Says why nothing is restored, unless the guard calls.
-pub(crate) fn tell_unrestored<E: Sink>(by_guard: bool, is_left: bool, term: &Term, err: &mut E)
-    ensures { SaysUnrestored term.now.coloring by_guard is_left
+/// Says that nothing is left to restore, or, as an error, that another call has what is; a guard
+/// says nothing, since nobody reads it.
+pub(crate) fn tell_unrestored<E: Sink>(by_guard: bool, is_left: bool, term: &mut Term, err: &mut E)
+    ensures { SaysUnrestored by_guard is_left term.old term.new
         (stream_of E.Sink err.old) (stream_of E.Sink err.new) }
 {
     if by_guard {
         return;
     }
-    let _ = term.info(unrestored_text(is_left), err);
-}
-
-/// Why nothing is restored, though something is left, or since nothing is.
-fn unrestored_text(is_left: bool) -> &'static str
-    ensures { result.now ≡ text_of_unrestored is_left }
-{
     if is_left {
-        "another call is editing the manifests of this workspace, and restores them"
-    } else {
-        "nothing is left to restore"
+        let text = "another call is editing the manifests of this workspace, and restores them";
+        let _ = term.error(text, err);
+        return;
     }
+    let _ = term.info("nothing is left to restore", err);
 }
 
 /// Says, where no guard watches, that nobody restores the manifests where this call ends early.

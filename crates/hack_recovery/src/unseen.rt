@@ -1,7 +1,7 @@
 //! A call of which it isn't known whether an interrupted one left anything, since a look at a file
 //! failed.
 
-ghost use Rattle.std.specs.Prelude.{◌≡◌, ◌⊎◌, ℕ, IfSome, codes, false, not, true};
+ghost use Rattle.std.specs.Prelude.{◌≡◌, ℕ, IfSome, false, not, true};
 ghost use Rattle.hack_base.specs.Names.{names_of};
 ghost use Rattle.hack_base.specs.Streams.{Stream, WritesText, stream_of};
 ghost use Rattle.hack_words.specs.Edits.{is_change};
@@ -10,7 +10,7 @@ ghost use Rattle.hack_recovery.specs.GuardEvents.{GuardsView};
 ghost use Rattle.hack_recovery.specs.LockEvents.{LocksView};
 ghost use Rattle.hack_recovery.specs.Scenes.{scene_beside, scene_with};
 ghost use Rattle.hack_recovery.specs.Telling.{SaysUnseen, SaysUnsure};
-ghost use Rattle.hack_recovery.specs.Texts.{short_unsure_text, unseen_text, unsure_text};
+ghost use Rattle.hack_recovery.specs.Texts.{unseen_text, unsure_text};
 ghost use Rattle.hack_run.specs.Lanes.{IsLaneCall};
 ghost use Rattle.hack_run.specs.Readings.{IsEarlyReading};
 ghost use Rattle.hack_files.specs.View.{FilesView, files_view};
@@ -25,7 +25,6 @@ use hack_files::reason::tell_reason;
 use hack_run::host::Host;
 use hack_starts::starts::Starts;
 use hack_term::term::Term;
-use std::alloc::Global;
 
 /// Refuses a call that would change manifests, and performs any other, after a warning. `path` is
 /// what can't be looked at.
@@ -63,47 +62,28 @@ pub(crate) fn blindly<F: Files, C: Starts, O: Sink, E: Sink>(
 {
     tell_reason(host.alloc, files, host.term, host.err);
     if asked.edits.is_change() {
-        refuse(host.alloc, path, host.term, host.err);
+        refuse(path, host.term, host.err);
         return host.status();
     }
-    warn(host.alloc, path, host.term, host.err);
+    warn(path, host.term, host.err);
     unjournaled(words, asked.reading, files, host)
 }
 
 /// Reports that this path can't be looked at, as an error.
-fn refuse<E: Sink>(alloc: Global, path: &str, term: &mut Term, err: &mut E)
+fn refuse<E: Sink>(path: &str, term: &mut Term, err: &mut E)
     ensures noted { term.new ≡ record term.old { error = true } }
     ensures said { WritesText (error_line term.old.coloring (unseen_text path.now))
-        (stream_of E.Sink err.old) (stream_of E.Sink err.new)
-        ⊎ WritesText (error_line term.old.coloring (codes "out of memory"))
         (stream_of E.Sink err.old) (stream_of E.Sink err.new) }
 {
-    match format!(in alloc; "failed to read from file `{path}`") {
-        Ok(text) => {
-            let _ = term.error(&text, err);
-        }
-        Err(_) => {
-            let _ = term.error("out of memory", err);
-        }
-    }
+    let _ = term.error_of("failed to read from file `", path, "`", err);
 }
 
 /// Warns that this path can't be looked at.
-fn warn<E: Sink>(alloc: Global, path: &str, term: &mut Term, err: &mut E)
+fn warn<E: Sink>(path: &str, term: &mut Term, err: &mut E)
     ensures noted { term.new ≡ record term.old { warn = true } }
     ensures said { WritesText (warning_line term.old.coloring (unsure_text path.now))
-        (stream_of E.Sink err.old) (stream_of E.Sink err.new)
-        ⊎ WritesText (warning_line term.old.coloring short_unsure_text)
         (stream_of E.Sink err.old) (stream_of E.Sink err.new) }
 {
-    match format!(in alloc;
-        "failed to read from file `{path}`: edits of an interrupted call may stand"
-    ) {
-        Ok(text) => {
-            let _ = term.warn(&text, err);
-        }
-        Err(_) => {
-            let _ = term.warn("edits of an interrupted call may stand", err);
-        }
-    }
+    let after = "`: edits of an interrupted call may stand";
+    let _ = term.warn_of("failed to read from file `", path, after, err);
 }

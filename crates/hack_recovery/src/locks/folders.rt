@@ -9,8 +9,8 @@ use std::io::ErrorKind;
 use std::time::{Clock, Duration};
 use std::{fs, rt, thread};
 
-/// How often a lock that another has is tried once more, ten milliseconds later: a guard has it only
-/// while it restores.
+/// How often a lock that another has is tried once more, ten milliseconds later: a guard has it
+/// only while it restores.
 const TRIES: u32 = 100;
 
 /// Locks on folders of the operating system. What was taken ends with the value, and with the

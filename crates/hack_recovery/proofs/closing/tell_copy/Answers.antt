@@ -1,16 +1,19 @@
 use Rattle.std.proofs.Common.{refl}
-use Rattle.hack_places.proofs.LookLemmas.{none_there}
 use Rattle.hack_recovery.specs.CallCourses.IsCopyTold.{absent, there, unsure}
-use Rattle.hack_recovery.proofs.FailedLemmas.{some_there}
-use Rattle.hack_recovery.proofs.closing.tell_copy.Goals.{in-Ok-true, in-Ok-false, in-Err}
+use Rattle.hack_recovery.proofs.FailedLemmas.{none_seen}
 use Rattle.hack_recovery.proofs.closing.tell_copy.Goals as goal
 
-pub returns-clause-told : goal.returns-clause-told
-returns-clause-told g c = elim c.match-is_there.branch [
-  | in-Ok-true w ↦ rw (w.term-is, w.err-is) (there w.tell_stay.ensures w.in-Ok-true.ensures.counted
-      (λ t. some_there _ w.in-Ok-true.field-0 w.in-Ok-true.field-0-test (w.in-Ok-true.ensures.found t)) (record { same = c.is_there.ensures.same; untraced = c.is_there.ensures.untraced }))
-  | in-Ok-false w ↦ rw (w.term-is, w.err-is) (absent refl refl w.in-Ok-false.ensures.counted
-      (λ t. none_there _ w.in-Ok-false.field-0 w.in-Ok-false.field-0-test (w.in-Ok-false.ensures.found t)) (record { same = c.is_there.ensures.same; untraced = c.is_there.ensures.untraced }))
-  | in-Err w ↦ rw (w.term-is, w.err-is) (unsure w.tell_stay-in-Err.ensures w.in-Err.ensures.failed.1
-      (record { before = c.args.files.now; after = c.is_there.new.files; unseen = w.in-Err.ensures.failed.0.unseen }) (record { same = c.is_there.ensures.same; untraced = c.is_there.ensures.untraced }))
-]
+pub returns-then-not-unwritten-clause-told : goal.returns-then-not-unwritten-clause-told
+returns-then-not-unwritten-clause-told g c = rw c.if-not-unwritten.true (refl, refl, refl)
+
+pub returns-in-Ok-true-clause-told : goal.returns-in-Ok-true-clause-told
+returns-in-Ok-true-clause-told g c =
+    rw c.if-not-unwritten.false (there c.tell_stay.ensures c.in-Ok-true.ensures.counted (λ t. (c.in-Ok-true.ensures.there t).0 c.in-Ok-true.field-0-test) (record { same = c.exists.ensures.same; untraced = c.exists.ensures.untraced }))
+
+pub returns-in-Ok-false-clause-told : goal.returns-in-Ok-false-clause-told
+returns-in-Ok-false-clause-told g c =
+    rw c.if-not-unwritten.false (absent refl refl c.in-Ok-false.ensures.counted (λ t. none_seen _ c.in-Ok-false.field-0 c.in-Ok-false.field-0-test (c.in-Ok-false.ensures.there t)) (record { same = c.exists.ensures.same; untraced = c.exists.ensures.untraced }))
+
+pub returns-in-Err-clause-told : goal.returns-in-Err-clause-told
+returns-in-Err-clause-told g c =
+    rw c.if-not-unwritten.false (unsure c.tell_stay-in-Err.ensures c.in-Err.ensures.counted (record { before = c.args.files.now; after = c.exists.new.self; unseen = c.in-Err.ensures.unseen_path }) (record { same = c.exists.ensures.same; untraced = c.exists.ensures.untraced }))

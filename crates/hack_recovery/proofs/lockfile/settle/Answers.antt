@@ -47,13 +47,12 @@ returns-then-not-is_settled-clause-said g c =
     let lockfile = string_bytes c.args.places.now.lockfile in
     let coloring = c.args.host.now.term.now.coloring in
     let dir = string_bytes c.args.host.now.env.now.current_dir in
-    let by_guard = c.args.host.now.env.now.by_guard in
     let was : FilesView = files_view g.L.Files c.args.lockfiles.now in
-    let told : SaysUnsettled g.L.Files by_guard coloring lockfile was.failed (g.L.Files.failed c.if-host.lockfiles) (Ok false) (stream_of g.E.Sink c.args.host.now.err.now) (stream_of g.E.Sink c.if-host.host.err.now) = elim c.if-host.branch [
+    let told : SaysUnsettled g.L.Files coloring lockfile was.failed (g.L.Files.failed c.if-host.lockfiles) (Ok false) (stream_of g.E.Sink c.args.host.now.err.now) (stream_of g.E.Sink c.if-host.host.err.now) = elim c.if-host.branch [
       | then-host+in_ok-is_settled w ↦
-          rw (w.host-is, w.lockfiles-is, w.if-host.true) (undone g.L.Files true coloring dir lockfile _ was (files_view g.L.Files w.give_back.new.lockfiles) w.in_ok-is_settled.is_settled _ _ (sym w.is_settled-is ∙ c.if-not-is_settled.true) w.in_ok-is_settled.ensures.said)
+          rw (w.host-is, w.lockfiles-is) (undone g.L.Files true coloring dir lockfile _ was (files_view g.L.Files w.give_back.new.lockfiles) w.in_ok-is_settled.is_settled _ _ (sym w.is_settled-is ∙ c.if-not-is_settled.true) w.in_ok-is_settled.ensures.said)
       | else-host+in_ok-is_settled-2 w ↦
-          rw (w.host-is, w.lockfiles-is, w.if-host.false) (undone g.L.Files false coloring dir lockfile _ was (files_view g.L.Files w.leave.new.lockfiles) w.in_ok-is_settled-2.is_settled _ _ (sym w.is_settled-is ∙ c.if-not-is_settled.true) w.in_ok-is_settled-2.ensures.said)
+          rw (w.host-is, w.lockfiles-is) (undone g.L.Files false coloring dir lockfile _ was (files_view g.L.Files w.leave.new.lockfiles) w.in_ok-is_settled-2.is_settled _ _ (sym w.is_settled-is ∙ c.if-not-is_settled.true) w.in_ok-is_settled-2.ensures.said)
     ] in
     unsettled c.in-Ok-Some.bytes.items held (λ t. c.in-Ok-Some.ensures.same t (string_bytes c.args.places.now.copy) ∙ held t) c.in-Ok-Some.ensures.failures told
 

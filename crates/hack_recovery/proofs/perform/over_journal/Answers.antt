@@ -15,15 +15,17 @@ returns-clause-goes g c = λ locks guards.
       failed = c.run_journaled-files.result.3;
       last = last;
       err = stream_of g.E.Sink c.tell_unkept.new.err;
-      unkept = rw (c.count-noted.ensures, c.count.ensures, c.as_str-journal.ensures.value) at c.tell_unkept.ensures;
+      unkept = rw (c.count-noted.ensures, c.count.ensures, c.as_str.ensures.value) at c.tell_unkept.ensures;
       journals = journals_at g.F.Files g.L.Files g.U.Unkept _ _ _ _ _ _ _ old last c.requires.place
           (record { refused = ran.refused; done = ran.done; traced = ran.traced; made = ran.made; said = ran.shown; clean = ran.clean; back = ran.back; stood = λ quiet. edits_between _ _ _ _ _ _ _ _ (λ held was. (_, _, _, _, was)) (ran.stood quiet); few = ran.few; spoilt = ran.spoilt; number = ran.number; gone = ran.gone; ended = ran.ended; safe = ran.safe; others = ran.others; locks = refl; guards = refl });
+      unwritten = c.run_journaled-files.result.5;
+      refused = record { before = c.args.lockfiles; after = c.run_journaled-files.result.2; first = refl; last = refl; noted = ran.unwritten };
       closes = record {
         others = c.close.ensures.others;
         made = c.close.ensures.made;
         lockfiles = refl;
         quiet = record { calls = refl; out = refl; stdout = refl; fails = refl; unkept = refl; locks = refl; guards = refl };
-        told = rw (c.failures-before.ensures, c.failures.ensures) at c.close.ensures.told;
+        told = c.close.ensures.told;
       };
     }
 

@@ -48,7 +48,7 @@ returns-in-Ok-Plain-clause-goes g c =
     (λ on. (
       ap (λ files. scene_by (files_view g.F.Files files) lockfiles unkept locks guards (host_view g.C.Caller g.O.Sink c.plainly-status.new.host) (streams g.O.Sink g.E.Sink c.plainly-status.new.host.out.now c.plainly-status.new.host.err.now)) (came.restores on).0
           ∙ (ap (λ (host : HostView). scene_by seen lockfiles unkept locks guards host (streams g.O.Sink g.E.Sink c.plainly-status.new.host.out.now c.plainly-status.new.host.err.now)) (came.restores on).1
-          ∙ ap (λ out. scene_by seen lockfiles unkept locks guards (host_view g.C.Caller g.O.Sink c.args.host.now) (streams g.O.Sink g.E.Sink out c.plainly-status.new.host.err.now)) (came.still on).1),
+          ∙ ap (λ out. scene_by seen lockfiles unkept locks guards (record (host_view g.C.Caller g.O.Sink c.args.host.now) { term = c.plainly-status.new.host.term.now }) (streams g.O.Sink g.E.Sink out c.plainly-status.new.host.err.now)) (came.still on).1),
       came.said on,
     ))
     (λ off.

@@ -29,7 +29,6 @@ returns-clause-goes g c = λ unkept locks guards.
       failed = (settled-by.failed, settled-by.lockfiles_failed);
       others = settled-by.others;
       made = settled-by.made;
-      why = settled-by.why;
       given = settled-by.given;
       kept = settled-by.kept;
       only = settled-by.only;

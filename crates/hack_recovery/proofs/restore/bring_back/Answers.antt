@@ -7,7 +7,7 @@ use Rattle.hack_recovery.proofs.restore.bring_back.Goals as goal
 pub returns-in-Ok-clause-came : goal.returns-in-Ok-clause-came
 returns-in-Ok-clause-came g c =
     let came = c.in-Ok.ensures in
-    brought (names_of c.in-Ok.paths.items) (record { failures = came.failures; restored = came.restored; still = came.still; nearer = came.nearer; comes_back = came.comes_back; safe = came.safe; safe_after_cut = came.safe_after_cut })
+    brought (names_of c.in-Ok.paths.items) (record { failures = came.failures; none = record { before = c.args.files.now; after = c.recover.new.files; first = refl; last = refl; none = came.calls }; restored = came.restored; still = came.still; nearer = came.nearer; comes_back = came.comes_back; safe = came.safe; safe_after_cut = came.safe_after_cut })
     refl (rw c.deref.ensures.value at c.tell_all.ensures)
 
 pub returns-in-Err-clause-came : goal.returns-in-Err-clause-came

@@ -16,6 +16,7 @@ returns-in-Some g c =
     let named = one_named g.F.Files.tells spot held c.in-Ok.row (edit_of c.in-Some.entry.now) c.in-Ok.ensures.some
     (sym (ap (option_map (λ entry. edit_of entry.now)) c.in-Some.is) ∙ c.stranger_in.ensures) in
     strange (edit_of c.in-Some.entry.now).path (record { same = c.in-Ok.ensures.same; untraced = c.in-Ok.ensures.untraced }) c.in-Ok.ensures.failures
+    (record { before = c.args.files.now; after = c.row_at.new.files; first = refl; last = refl; none = c.in-Ok.ensures.calls })
     named (never_strange g.F.Files.tells spot held (edit_of c.in-Some.entry.now).path named)
     c.tell_stranger.ensures.never c.tell_stranger.ensures.told (rw (c.as_str-journal.ensures.value, c.as_str-path.ensures.value) at c.tell_stranger.ensures.said)
 
@@ -23,6 +24,7 @@ pub returns-in-Ok : goal.returns-in-Ok
 returns-in-Ok g c =
     let at : FilesView = files_view g.F.Files c.row_at.new.files in
     trusted at (record { same = c.in-Ok.ensures.same; untraced = c.in-Ok.ensures.untraced }) c.in-Ok.ensures.failures
+    (record { before = c.args.files.now; after = c.row_at.new.files; first = refl; last = refl; none = c.in-Ok.ensures.calls })
     (none_named g.F.Files.tells (spot_of c.args.place.now) (g.F.Files.bytes_at c.args.files.now) c.in-Ok.row c.in-Ok.ensures.none c.in-Ok.ensures.some
     (sym c.stranger_in.ensures ∙ ap (option_map (λ entry. edit_of entry.now)) c.in-None.is))
     c.bring_back.ensures.came c.bring_back.ensures.told
