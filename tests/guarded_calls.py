@@ -32,7 +32,7 @@ from small_workspace import FILES, number_and_programs, write  # noqa: E402
 
 BOTH = ["p/Cargo.toml", "q/Cargo.toml"]
 NOTHING_LEFT = "info: nothing is left to restore\n"
-BUSY = "info: another call is editing the manifests of this workspace, and restores them\n"
+BUSY = "error: another call is editing the manifests of this workspace, and restores them\n"
 
 # ---- Ways to end.
 
@@ -281,7 +281,7 @@ def two_at_once(place):
     refused, plain, restoring = ends.values()
     must(refused[0] == 1 and "another call" in refused[1], f"a second that edits: {refused}")
     must(plain[0] == 0 and "restored" not in plain[1], f"one that doesn't edit: {plain}")
-    must(restoring == (0, BUSY), f"one that restores: {restoring}")
+    must(restoring == (1, BUSY), f"one that restores: {restoring}")
     must(status == 0, f"the first ends with {status}: {told}")
     place.as_before()
 

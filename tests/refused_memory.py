@@ -6,8 +6,8 @@ usage: tests/refused_memory.py [--every K] CARGO_HACK [POWERSET_LIST [MEMORY_CAL
 A small allocator, built by the machine's C compiler and loaded before the program, refuses its n-th call, or that one and
 all after it, for n from 1 (with K: 1, K + 1, ..) until a run meets no refusal. Each run has to end with the status and the
 bytes of a run with ample memory, or with status 1 and the last line `error: out of memory` (or, where such a run fails,
-its last line) but for a warning of the lockfile's copy and a line on a refused edit, never by a signal; and every file of
-the workspace has to hold its bytes at the end. So a sample, in whose search memory was refused, is the very same or none.
+its last line) but for lines on what stays and on a refused edit, never by a signal; and every file of the workspace has to
+hold its bytes at the end. So a sample, in whose search memory was refused, is the very same or none.
 `memory_calls` makes the calls that take memory step by step, and says in which one it was refused: each of them has to be
 among these.
 
@@ -162,7 +162,7 @@ def fault_of(ended, ample, workspace):
     if status != 1:
         return f"status {status}, in place of {ample[0]} or 1"
     allowed = ["error: out of memory", *(ample[2].decode().splitlines()[-1:] if ample[0] else [])]
-    behind = ("what the lockfile held", "an edit was refused, since what it replaces can't be kept")
+    behind = ("stays: ", "may stay: ", "what the lockfile held", "an edit was refused, since what it replaces can't be kept")
     last = [it for it in err.decode().splitlines() if not any(text in it for text in behind)][-1:]
     return None if last and last[0] in allowed else f"its last line is {last}"
 

@@ -144,16 +144,16 @@ def small_workspace(texts, root):
 # ---- Tries that both make.
 
 
-def gone_fault(program, tools, words, numbers, command, found):
-    """What is wrong with a call in which a tool goes, so that a command can't be started, if something is: it doesn't say what
-    was found, in such words. Returns its lines."""
+def gone_fault(program, tools, words, numbers, command, told, found=()):
+    """What is wrong with a call in which a tool goes, so that a command can't be started, if something is: of what was found,
+    in such words, it says just these lines, and then the error. Returns its lines."""
     files = tree(tools.workspace["root"])
     numbers = {it: what.replace("@", shlex.quote(tools.folder)) for it, what in numbers.items()}
     ended, _ = tools.call(program, words, Fails((), numbers), {})
     wanted, lines = f"error: could not execute process `{tools.folder}/{command}` (never executed)", ended.stderr.splitlines()
-    must((ended.returncode, [it for it in lines if it.startswith("error: ")]) == (1, [wanted]),
-         f"status {ended.returncode}, {ended.stderr}\nwanted\n{wanted}")
-    must(not re.search(found, ended.stderr), f"it says what was found: {ended.stderr}")
+    said = [it for it in lines if it.startswith("error: ") or re.search(told, it)]
+    must((ended.returncode, said) == (1, [*found, wanted]),
+         f"status {ended.returncode}, {ended.stderr}\nwanted\n{readable([*found, wanted])}")
     must(tree(tools.workspace["root"]) == files, "the files aren't what they were")
     return lines
 

@@ -54,9 +54,12 @@ class Search:
         try:
             for member in plan.packages:
                 self.search(member)
-            lines = [it for member in self.found for it in self.lines(member)]
         except Ended as end:
-            self.end, lines = end, [f"error: {end}"]
+            self.end = end
+        # Where a search is broken off, what was found before is told, and then the error.
+        lines = [it for member in self.found for it in self.lines(member)]
+        if self.end is not None:
+            lines.append(f"error: {self.end}")
         self.err += "".join(f"{it}\n" for it in lines)
         counted = ("error: ", "warning: ") if self.asked.denies else ("error: ",)
         self.status = 1 if any(it.startswith(counted) for it in lines) else status
@@ -322,7 +325,8 @@ ROWS = {
         ["error: q: on 1.63 this fails: `rustup run 1.63 cargo check`"]),
     "a toolchain of the second package that can't be added": Row(
         "p=1.61 q", FOUR, "p=61 run_1.60_cargo_--version toolchain_add_1.60_--no-self-update", "63 62 61 63 61 60", 1,
-        ["info: running `rustup toolchain add 1.60 --no-self-update`",
+        ["info: running `rustup toolchain add 1.60 --no-self-update`", least("p", "1.62", "1.60..=1.63", "1.61"),
+         "warning: p: its rust-version is 1.61, but not all runs pass on 1.61",
          "error: " + FAILED.format("{rustup} toolchain add 1.60 --no-self-update")]),
     "cleaning before versions": Row("p", f"{FOUR} --clean-per-version", "p=60", "63 61 60", 0,
                                     [least("p", "1.61", "1.60..=1.63", "1.60")]),
@@ -405,23 +409,24 @@ def row_fault(program, folder, row):
 
 # ---- Calls that end early, for another reason than a preparation that fails; and refused ones.
 
-# What is done at the command of a number, the options, and the command that can't be started then.
+# What is done at the command of a number, the options, the command that can't be started then, and what was found before.
 GONE = {
-    "rustup is gone before a run": ({0: "rm @/rustup"}, "", "rustup run 1.63 cargo check --manifest-path p/Cargo.toml"),
-    "rustup is gone before a toolchain": ({1: "rm @/rustup"}, "", "rustup toolchain add 1.61 --no-self-update"),
+    "rustup is gone before a run": ({0: "rm @/rustup"}, "", "rustup run 1.63 cargo check --manifest-path p/Cargo.toml", []),
+    "rustup is gone before a toolchain": ({1: "rm @/rustup"}, "", "rustup toolchain add 1.61 --no-self-update", []),
     "rustup is gone before a run, after one failed": (
-        {1: "exit 101", 2: "rm @/rustup"}, "", "rustup run 1.60 cargo check --manifest-path q/Cargo.toml"),
-    "cargo is gone before a cleaning": ({2: "rm @/cargo"}, "--clean-per-run", "cargo clean --package p"),
+        {1: "exit 101", 2: "rm @/rustup"}, "", "rustup run 1.60 cargo check --manifest-path q/Cargo.toml",
+        ["error: p: on 1.60 this fails: `rustup run 1.60 cargo check`"]),
+    "cargo is gone before a cleaning": ({2: "rm @/cargo"}, "--clean-per-run", "cargo clean --package p", []),
 }
 
 
 def gone_row_fault(program, folder, row):
     """What is wrong with a call in which a tool goes, if something is."""
-    numbers, words, command = row
+    numbers, words, command, found = row
     packages, place = ("p q", "1.60..=1.60") if "q/" in command else ("p", "1.60..=1.63")
     asked = [FIND, "check", "--no-dev-deps", "--version-range", place, *words.split()]
     tools = Tools(small_workspace(packages, f"{folder}/w"), f"{folder}/tools")
-    lines = gone_fault(program, tools, asked, numbers, command, "fails: |pass ")
+    lines = gone_fault(program, tools, asked, numbers, command, "fails: |pass ", found)
     chosen = "info: cargo is chosen by CARGO_HACK_CARGO_SRC or CARGO, and rustup by CARGO_HACK_RUSTUP"
     must(lines[-2] == chosen, f"before the error it says {lines[-2]}")
 

@@ -69,7 +69,8 @@ HIDDEN = [
             "The greatest version of the range is tried first, and then always the one in the middle of those left. A version is"
             " tried by the package's runs, until one fails. At the end a line for each package says its least version, which run"
             " fails on the one before, and where its `rust-version` is another. No version below that is tried, and none that"
-            " --version-step leaves out.",
+            " --version-step leaves out. Where a preparation fails, or a program can't be started, the packages before have their"
+            " lines.",
             "This flag can only be used together with --version-range flag, and not with --partition, --print-command-list,"
             " --keep-going, --workspace-behavior=cargo or --parallel flag.",
         ],
@@ -240,7 +241,7 @@ def cargo_hack_page(found):
         ("FILES", items([("\\fB.git/cargo\\-hack\\-journal\\fP, \\fB.cargo\\-hack\\-journal\\fP", [
             "What edited manifests held, kept while they are edited: in the repository of the workspace, or else beside its"
             " manifest. Where a call ends early, its guard, a shell, restores them at once. Where that can't act, as after"
-            " the machine stopped, the next call does, or `cargo hack --restore`.",
+            " the machine stopped, the next call does, or `cargo hack --restore`, an error while another call's edits stand.",
         ])])),
         ("EXIT STATUS", [
             roff("0, or 1 after an error, as a conflict is one that was found. A warning counts as an error where"),

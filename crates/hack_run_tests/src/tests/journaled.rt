@@ -32,8 +32,14 @@ pub fn journaled(alloc: Global, world: &str, words: &str) -> Result<String, Allo
         journal: String::from_str(alloc, "/w/journal")?,
     };
     let (words, _, mut host) = scene.parts(alloc);
-    let (status, files, lockfiles, failed, unkept): (u8, MemoryFiles, MemoryFiles, u64, u64) =
-        run_journaled(words, None, files, lockfiles, place, 0u64, &mut host);
+    let (status, files, lockfiles, failed, unkept, _): (
+        u8,
+        MemoryFiles,
+        MemoryFiles,
+        u64,
+        u64,
+        bool,
+    ) = run_journaled(words, None, files, lockfiles, place, 0u64, &mut host);
     let mut text = format!(in alloc; "status {status}, {failed} failed, {unkept} unkept")?;
     push_paths(&mut text, files.steps(), scene.first)?;
     text.push_str(" |")?;

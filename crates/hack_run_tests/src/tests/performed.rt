@@ -51,7 +51,7 @@ pub fn performed(alloc: Global, world: &str, words: &str) -> Result<String, Allo
 }
 
 // The lockfile is looked for and read, to be copied and once more by the call, and then written back.
-// Where that is refused, the copy is all that has what it held.
+// Where that is refused, the copy is all that has what it held; a read that fails leaves it as it was.
 #[test]
 fn lockfiles_that_fail(rt: HostRuntime) -> Result<(), Wrong> {
     on(
@@ -63,6 +63,12 @@ fn lockfiles_that_fail(rt: HostRuntime) -> Result<(), Wrong> {
             | info: running `cargo check` on p (1/1)
             | no copy
             | status 0
+
+            > performed: hack check --no-dev-deps; broken call 4
+            | info: --no-dev-deps modifies real `Cargo.toml` while cargo-hack is running and restores it when finished
+            | error: failed to read from file `/w/Cargo.lock`
+            | no copy
+            | status 1
 
             > performed: hack check --no-dev-deps; broken call 5
             | info: --no-dev-deps modifies real `Cargo.toml` while cargo-hack is running and restores it when finished
@@ -93,9 +99,9 @@ fn own_lines(rt: HostRuntime) -> Result<(), Wrong> {
             | status 0
 
             > performed: hack --restore; lock theirs; file: /w/.cargo-hack-journal; | edited files; | end
-            | info: another call is editing the manifests of this workspace, and restores them
+            | error: another call is editing the manifests of this workspace, and restores them
             | no copy
-            | status 0
+            | status 1
 
             > performed: hack --restore; lock unknown; file: /w/.cargo-hack-journal; | edited files; | end
             | error: there is a journal of edited manifests, and the folder of the workspace can't be locked
@@ -193,14 +199,12 @@ fn files_that_fail(rt: HostRuntime) -> Result<(), Wrong> {
             | status 1
 
             > performed: hack check --no-dev-deps; broken look 19
-            | info: failed to read or write file `/w/Cargo.toml`
-            | error: the lockfile can't be copied to where the journal lies
+            | error: failed to read or write file `/w/Cargo.toml`
             | no copy
             | status 1
 
             > performed: hack check --no-dev-deps; broken call 2
-            | info: failed to read or write file `/w/Cargo.lock`
-            | error: the lockfile can't be copied to where the journal lies
+            | error: failed to read or write file `/w/Cargo.lock`
             | no copy
             | status 1
 
@@ -216,7 +220,8 @@ fn files_that_fail(rt: HostRuntime) -> Result<(), Wrong> {
             | info: running `cargo check` on p (1/1)
             | error: failed to write to file `/w/Cargo.toml`
             | error: failed to write to file `/w/Cargo.lock`
-            | warning: `/w/.cargo-hack-journal` stays: the next call brings back what it tells; what the lockfile held may be in `/w/.cargo-hack-journal~lock`
+            | warning: `/w/.cargo-hack-journal` stays: the next call brings back what it tells
+            | warning: `/w/.cargo-hack-journal~lock` stays: it has what the lockfile held, and the next call removes it
             | copy: # lock
             | status 1
 

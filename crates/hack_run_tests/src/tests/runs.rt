@@ -1,7 +1,7 @@
 //! Runs: their commands, their lines, what stops them, and the report.
 
 use crate::tests::asked::on;
-use crate::tests::worlds::PLAIN;
+use crate::tests::worlds::{PLAIN, VIRTUAL};
 use hack_holds::Wrong;
 
 #[test]
@@ -419,6 +419,44 @@ fn searches(rt: HostRuntime) -> Result<(), Wrong> {
             | info: running `rustup run 1.62 cargo check` on p (3/3)
             | info: running `rustup toolchain add 1.61 --no-self-update`
             | error: process didn't exit successfully: `rustup toolchain add 1.61 --no-self-update` (exit status: 1)
+            | status 1
+        "#,
+    )
+}
+
+/// What was found of packages before a search that is broken off is told, and then the error.
+#[test]
+fn searches_of_two_packages(rt: HostRuntime) -> Result<(), Wrong> {
+    on(
+        rt.alloc(),
+        VIRTUAL,
+        r#"
+            > err: hack check --workspace --version-range 1.60..=1.63 --find-rust-version; fails 101 rustup run 1.61 cargo check --manifest-path p/Cargo.toml; fails 1 rustup run 1.60 cargo --version; fails 1 rustup toolchain add 1.60 --no-self-update
+            | err
+            |
+            | info: running `rustup run 1.63 cargo check` on p (7/8)
+            |
+            | info: running `rustup run 1.61 cargo check` on p (3/8)
+            |
+            | info: running `rustup run 1.62 cargo check` on p (5/8)
+            |
+            | info: running `rustup run 1.63 cargo check` on q (8/8)
+            |
+            | info: running `rustup run 1.61 cargo check` on q (4/8)
+            | info: running `rustup toolchain add 1.60 --no-self-update`
+            | info: p: 1.62 is the least version of 1.60..=1.63 on which all runs pass; on 1.61 this fails: `rustup run 1.61 cargo check`
+            | error: process didn't exit successfully: `rustup toolchain add 1.60 --no-self-update` (exit status: 1)
+            | status 1
+
+            > err: hack check --workspace --version-range 1.60..=1.61 --find-rust-version; fails 101 rustup run 1.61 cargo check --manifest-path p/Cargo.toml; missing rustup run 1.61 cargo check --manifest-path q/Cargo.toml
+            | err
+            |
+            | info: running `rustup run 1.61 cargo check` on p (3/4)
+            |
+            | info: running `rustup run 1.61 cargo check` on q (4/4)
+            | error: p: on 1.61 this fails: `rustup run 1.61 cargo check`
+            | info: no `rustup` is in the `PATH`
+            | error: could not execute process `rustup run 1.61 cargo check --manifest-path q/Cargo.toml` (never executed)
             | status 1
         "#,
     )
