@@ -2,7 +2,7 @@
 """Runs the gate and writes its processor time, by part and crate, into docs/GATE.md.
 
 usage: tests/gate_time.py LOG      runs `make test`, writes what it prints and the times to LOG, and then the table
-       tests/gate_time.py --of LOG .. writes the table of an earlier run, or of some, each over what those before it kept
+       tests/gate_time.py --of LOG writes the table of an earlier run
 
 Processor time is user and system time together, of all processes. The whole is exact; the parts are looked up in
 /proc five times a second, so that each process may lack its last fifth of a second. `proof` is the check of a crate
@@ -78,24 +78,20 @@ def run(log):
     return gate.returncode
 
 
-def table(logs):
-    """The lines that docs/GATE.md has of a run: its sums, and four crates a row, the dearest first. A run over what an earlier
-    one kept is added to it, in place of what that one took for the same part of a crate."""
-    sums, used, clock = {}, 0, 0
-    for log in logs:
-        with open(log, encoding="utf-8", errors="replace") as it:
-            text = it.read()
-        for name, part, seconds in re.findall(r"(?m)^time: (\S+) (proof|tests|edits) (\d+)$", text):
-            row = sums.setdefault(name, dict.fromkeys(PARTS, 0))
-            used, row[part] = used - row[part], int(seconds)
-        whole = re.search(r"(?m)^time: whole (\d+) (\d+)$", text)
-        used, clock = used + int(whole[1]), clock + int(whole[2])
-        counts = re.findall(r"(?m)^(\d+ passed, \d+ failed(?:, \d+ skipped)?)$", text)[-1:] or ["not ended"]
+def table(log):
+    """The lines that docs/GATE.md has of a run: its sums, and four crates a row, the dearest first."""
+    with open(log, encoding="utf-8", errors="replace") as it:
+        text = it.read()
+    sums = {}
+    for name, part, seconds in re.findall(r"(?m)^time: (\S+) (proof|tests|edits) (\d+)$", text):
+        sums.setdefault(name, dict.fromkeys(PARTS, 0))[part] = int(seconds)
+    used, clock = re.search(r"(?m)^time: whole (\d+) (\d+)$", text).groups()
+    counts = re.findall(r"(?m)^(\d+ passed, \d+ failed(?:, \d+ skipped)?)$", text)[-1:] or ["not ended"]
     parts = {part: sum(row[part] for row in sums.values()) for part in PARTS}
-    parts["all else"] = used - sum(parts.values())
+    parts["all else"] = int(used) - sum(parts.values())
     shares = ", ".join(f"{name} {seconds / 60:.0f}" for name, seconds in parts.items())
     lines = [
-        f"`{counts[0]}` in **{used / 60:.0f} processor minutes** ({shares}) and {clock / 60:.0f} of the clock,",
+        f"`{counts[0]}` in **{int(used) / 60:.0f} processor minutes** ({shares}) and {int(clock) / 60:.0f} of the clock,",
         f"on {len(os.sched_getaffinity(0))} processors. Seconds by crate, from a minute up: its proof alone, and with its tests and edits.",
         "",
         "| crate | s | crate | s | crate | s | crate | s |",
@@ -124,13 +120,13 @@ def write(lines):
 
 
 def main(words):
-    if len(words) > 1 and words[0] == "--of":
-        write(table(words[1:]))
+    if len(words) == 2 and words[0] == "--of":
+        write(table(words[1]))
         return 0
     if len(words) != 1 or words[0].startswith("-"):
         sys.exit(__doc__)
     status = run(words[0])
-    write(table(words))
+    write(table(words[0]))
     return status
 
 

@@ -162,7 +162,7 @@ def fault_of(ended, ample, workspace):
     if status != 1:
         return f"status {status}, in place of {ample[0]} or 1"
     allowed = ["error: out of memory", *(ample[2].decode().splitlines()[-1:] if ample[0] else [])]
-    behind = ("stays: ", "may stay: ", "what the lockfile held", "an edit was refused, since what it replaces can't be kept")
+    behind = ("brings back what it tells", "the next call removes it", "an edit was refused, since what it replaces can't be kept")
     last = [it for it in err.decode().splitlines() if not any(text in it for text in behind)][-1:]
     return None if last and last[0] in allowed else f"its last line is {last}"
 
