@@ -12,6 +12,7 @@ pub record IsRefused {F : Type 0} (f : Filing F) (path : List ℕ) : Type 0 wher
   pub after : F
   pub refused : f.refuses before after (path ∷ [])
 
+-- whether there are any paths
 abbrev pub are_some : List (List ℕ) → Bool
 are_some [] = false
 are_some (path ∷ more) = true

@@ -1,6 +1,6 @@
 -- Looks at files, one after another.
-use Rattle.std.proofs.Common.{◌≡◌, ◌∙◌, ◌||◌, [], ◌∷◌, inl, inr, ℕ, Bool, false, ap, refl, subst, sym, Result, Ok, Err, string_bytes}
-use Rattle.std.specs.Prelude.{Option, Some, None, List, is_some}
+use Rattle.std.proofs.Common.{◌≡◌, ◌∙◌, ◌||◌, [], ◌∷◌, inl, inr, ℕ, Bool, ap, subst, sym, Result, Ok, Err, string_bytes}
+use Rattle.std.specs.Prelude.{List, is_some}
 use Rattle.std.proofs.Math.Path.{fun_ext}
 use Rattle.hack_files.proofs.FilesLemmas.{trace_steps}
 use Rattle.hack_files.specs.Files.{Contents, KeepsAll}
@@ -26,11 +26,6 @@ left_is T first mid late places a b c any is one same two later three t =
 -- what is seen after looks is what was there at first
 pub seen_first : (T : Type 0) (P : Contents → Type 0) (first mid : Contents) → (T → KeepsAll first mid) → (T → P mid) → T → P first
 seen_first T P first mid same seen t = subst P (all_same first mid (same t)) (seen t)
-
--- where nothing is there, it is none
-pub none_there : (o : Option (List ℕ)) (there : Bool) → there ≡ false → there ≡ is_some o → o ≡ None
-none_there None there off h = refl
-none_there (Some x) there off h = cc
 
 -- ---- which looks failed
 

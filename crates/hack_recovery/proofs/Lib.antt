@@ -2,7 +2,6 @@ pub mod AskLemmas
 pub mod WayLemmas
 pub mod BackLemmas
 pub mod CountLemmas
-pub mod FailedLemmas
 mod CallLemmas
 mod LaneLemmas
 mod StrangerLemmas

@@ -1,7 +1,6 @@
 -- Who may go on, and how.
 use Rattle.std.specs.Prelude.{◌≡◌, ◌||◌, Bool, true, false, Result, Ok, Err, if◌then◌else◌}
 use Rattle.hack_base.specs.Names.{Name}
-use Rattle.hack_recovery.specs.declared.admit.Standing.{Standing}
 use Rattle.hack_recovery.specs.declared.admit.Standing.TheVariants.{Nobodys, Anothers, Interrupted}
 use Rattle.hack_recovery.specs.declared.admit.Way.{Way}
 use Rattle.hack_recovery.specs.declared.admit.Way.TheVariants.{Plain, Guarded}

@@ -22,7 +22,7 @@ use Rattle.hack_base.specs.PathTexts.{join_of}
 use Rattle.hack_places.specs.CallPlaces.{PlacesAt}
 use Rattle.hack_places.specs.Folders.{leaves_out}
 use Rattle.hack_places.specs.FileLooks.{Unchanged}
-use Rattle.hack_recovery.specs.FailedFiles.{FailsBetween, NoneFailedBetween, OneFailedAt}
+use Rattle.hack_recovery.specs.FailedFiles.{FailsBetween, NoneFailedBetween}
 use Rattle.hack_recovery.specs.Scenes.{IsQuiet, OneMayFail, Scene, scene_with}
 use Rattle.hack_recovery.specs.Telling.{SaysFailed, SaysFault, SaysRestored, SaysSettling, SaysStranger, Tells}
 use Rattle.hack_recovery.specs.declared.fault.CallFault.{CallFault}

@@ -64,11 +64,6 @@ broken_one found has = list_any-from_Any is_broken found (has.0, Broken, has.1, 
 pub none_broken : (found : List Found) → AreUnbroken found → list_any is_broken found ≡ false
 none_broken found whole = list_any_none is_broken found (All-weaker (λ (one : Found). one ≢ Broken) (λ (one : Found). is_broken one ≡ false) whole-one found whole)
 
--- whether one of the searches was broken off
-pub told_broken : (b : Bool) (found : List Found) → MatchBool b (Contains found Broken) (AreUnbroken found) → list_any is_broken found ≡ b
-told_broken true found has = broken_one found has
-told_broken false found whole = none_broken found whole
-
 -- ---- what is said of a conclusion
 
 module _ (coloring : Coloring) (was left : Option ProcessFault) (told reported : Bool) (old new : Stream) where

@@ -1,9 +1,8 @@
 -- What searches that weren't broken off, and whose reports were told, say.
 use Rattle.std.proofs.Math.Bool.{or_comm}
-use Rattle.std.proofs.Common.{◌≡◌, ◌∙◌, ◌+◌, ◌<◌, ◌≤◌, ◌∷◌, [], ℕ, Bool, true, false, List, Result, Err, All, Contains, arith, ap, get_or, inl, inr, length, take, subst, sym}
+use Rattle.std.proofs.Common.{◌≡◌, ◌∙◌, ◌+◌, ◌∷◌, [], ℕ, Bool, true, false, List, Result, Err, All, Contains, ap, inl, inr, subst, sym}
 use Rattle.std.specs.Prelude.{◌||◌}
-use Rattle.std.proofs.lemmas.List.{get_or-take, length-take, take_more}
-use Rattle.std.proofs.lemmas.List.Elements.{All-append, All-cons, All-contains, All-head, All-nil, All-tail, Contains-push}
+use Rattle.std.proofs.lemmas.List.Elements.{All-contains, All-head, All-tail, Contains-push}
 use Rattle.hack_base.proofs.Members.{Contains-cons_cases, Contains-nil}
 use Rattle.hack_conflicts.specs.declared.tried.BuildOutcome.{BuildOutcome}
 use Rattle.hack_conflicts.specs.declared.tried.BuildOutcome.TheVariants.{Passed as RunPassed, Failed as RunFailed, Broken as RunBroken}

@@ -1,16 +1,16 @@
 use Rattle.std.proofs.Common.{None, refl, string_bytes, sym}
 use Rattle.hack_base.specs.Streams.{stream_of}
 use Rattle.hack_files.specs.View.{files_view}
+use Rattle.hack_journal.proofs.FinishLemmas.{none_of}
 use Rattle.hack_journal.proofs.RecoverLemmas.{put_or_not}
 use Rattle.hack_recovery.specs.CallCourses.IsJournalClosed.{ended, stays, unseen}
-use Rattle.hack_recovery.proofs.FailedLemmas.{none_seen}
 use Rattle.hack_recovery.proofs.closing.close.Goals.{in-Err, in-Ok-true}
 use Rattle.hack_recovery.proofs.closing.close.Goals as goal
 
 pub returns-in-Ok-false-clause-told : goal.returns-in-Ok-false-clause-told
 returns-in-Ok-false-clause-told g c =
     let there = rw c.as_str-journal.ensures.value at c.in-Ok-false.ensures.there in
-    ended (files_view g.F.Files c.exists.new.self) c.in-Ok-false.ensures.counted (λ t. none_seen _ c.in-Ok-false.field-0 c.in-Ok-false.field-0-test (there t))
+    ended (files_view g.F.Files c.exists.new.self) c.in-Ok-false.ensures.counted (λ t. none_of c.in-Ok-false.field-0 _ (there t) c.in-Ok-false.field-0-test)
     (record { same = c.exists.ensures.same; untraced = c.exists.ensures.untraced }) (rw c.as_str-copy.ensures.value at c.end_copy.ensures.told)
 
 pub returns-clause-told : goal.returns-clause-told

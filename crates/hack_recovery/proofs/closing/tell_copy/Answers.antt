@@ -1,6 +1,6 @@
 use Rattle.std.proofs.Common.{refl}
+use Rattle.hack_journal.proofs.FinishLemmas.{none_of}
 use Rattle.hack_recovery.specs.CallCourses.IsCopyTold.{absent, there, unsure}
-use Rattle.hack_recovery.proofs.FailedLemmas.{none_seen}
 use Rattle.hack_recovery.proofs.closing.tell_copy.Goals as goal
 
 pub returns-then-not-unwritten-clause-told : goal.returns-then-not-unwritten-clause-told
@@ -12,7 +12,7 @@ returns-in-Ok-true-clause-told g c =
 
 pub returns-in-Ok-false-clause-told : goal.returns-in-Ok-false-clause-told
 returns-in-Ok-false-clause-told g c =
-    rw c.if-not-unwritten.false (absent refl refl c.in-Ok-false.ensures.counted (λ t. none_seen _ c.in-Ok-false.field-0 c.in-Ok-false.field-0-test (c.in-Ok-false.ensures.there t)) (record { same = c.exists.ensures.same; untraced = c.exists.ensures.untraced }))
+    rw c.if-not-unwritten.false (absent refl refl c.in-Ok-false.ensures.counted (λ t. none_of c.in-Ok-false.field-0 _ (c.in-Ok-false.ensures.there t) c.in-Ok-false.field-0-test) (record { same = c.exists.ensures.same; untraced = c.exists.ensures.untraced }))
 
 pub returns-in-Err-clause-told : goal.returns-in-Err-clause-told
 returns-in-Err-clause-told g c =
