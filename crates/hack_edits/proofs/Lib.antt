@@ -3,7 +3,5 @@ pub mod ItemLemmas
 pub mod LeftLemmas
 pub mod RecutLemmas
 pub mod AgainLemmas
-pub mod PrivateLemmas
-pub mod OrderLemmas
 pub mod AsideLemmas
 pub mod ArrayLemmas

@@ -5,11 +5,7 @@ pub mod Lookup
 pub mod Arrays
 pub mod DevTree
 pub mod DevDeps
-pub mod Members
 pub mod Parts
 pub mod LeftPieces
-pub mod Exclude
-pub mod WorkspaceTree
-pub mod PrivateCrates
 pub mod Internal
 pub mod InternalArrays

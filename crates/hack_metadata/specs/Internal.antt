@@ -1,5 +1,5 @@
 -- What only private functions of the crate promise each other.
-use Rattle.std.specs.Prelude.{◌≡◌, ◌⊎◌, ◌++◌, ◌∷◌, [], ℕ, List, Some, Result, Ok, Err, true, Option, nat_lt, map, MatchOption, option_map, option_copied, string_bytes}
+use Rattle.std.specs.Prelude.{◌≡◌, ◌⊎◌, ◌++◌, ◌∷◌, [], ℕ, List, Some, Result, Ok, Err, true, Option, nat_lt, map, MatchOption, option_map, string_bytes}
 use Rattle.hack_base.specs.FieldReadings.{FieldReading}
 use Rattle.hack_base.specs.Names.{Name}
 use Rattle.hack_files.specs.Files.{Change, Contents, KeepsOthers, puts}
@@ -21,9 +21,6 @@ use Rattle.std.specs.BTreeMap.{BTreeMap, get_by_text}
 use Rattle.std.specs.declared.string.String.{String}
 use Rattle.std.specs.declared.alloc.Global.{Global}
 use Rattle.hack_metadata.specs.declared.metadata.resolve.PackageId.{PackageId}
-use Rattle.hack_metadata.specs.PackageSpecs.{Url}
-use Rattle.hack_metadata.specs.declared.cargo.VersionParts.{VersionParts}
-use Rattle.hack_metadata.specs.declared.cargo.UrlParts.{UrlParts}
 
 -- the error names the key that a table is wrong at, unless memory was refused
 abbrev pub FailsAtKey : {Y : Type 0} → RulesFault → FieldReading Y → Type 0
@@ -81,17 +78,3 @@ TakesOptional ds first left = MatchOption first ((optional_in (map dependency_vi
 -- the place of the package that a text means, by a map of ids
 abbrev pub place_in : BTreeMap (String Global) PackageId → Name → Option ℕ
 place_in ids id = option_map place_at (get_by_text ids id)
-
--- two parts of a text
-abbrev pub pair_view : Bor Name × Bor Name → Name × Name
-pair_view parts = (parts.0.now, parts.1.now)
-
--- the parts of a version
-abbrev pub version_view : VersionParts → List (Option Name)
-version_view v =
-    Some v.major.now ∷ option_copied v.minor ∷ option_copied v.patch
-    ∷ option_copied v.pre ∷ option_copied v.build ∷ []
-
--- the parts of a URL
-abbrev pub url_view : UrlParts → Url
-url_view u = record { protocol = u.protocol.now; path = u.path.now; query = option_copied u.query; fragment = option_copied u.fragment }

@@ -4,11 +4,9 @@ pub mod FieldResults
 pub mod KnownIds
 pub mod Optional
 pub mod OptionalLeft
-pub mod PackageSpecs
 pub mod MetadataReading
 pub mod Records
 pub mod RuleTables
-pub mod InternalSpecAnswers
 pub mod SpecViews
 pub mod RecordViews
 pub mod MetadataView

@@ -1,6 +1,6 @@
 -- Specifications in the code as plain data.
 use Rattle.std.specs.Prelude.{string_bytes}
-use Rattle.hack_metadata.specs.PackageSpecs.{Identity}
+use Rattle.hack_pkgids.specs.PackageSpecs.{Identity}
 use Rattle.hack_metadata.specs.declared.metadata.package.Package.{Package}
 
 -- what a specification is compared with

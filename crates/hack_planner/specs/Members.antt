@@ -5,7 +5,7 @@ use Rattle.std.specs.Option.{option_map_or, option_to_list}
 use Rattle.std.specs.Str.{bytes_eq}
 use Rattle.hack_base.specs.Names.{Name, names_of}
 use Rattle.hack_metadata.specs.Records.{PackageRecord}
-use Rattle.hack_metadata.specs.PackageSpecs.{Identity, Matches}
+use Rattle.hack_pkgids.specs.PackageSpecs.{Identity, Matches}
 use Rattle.hack_words.specs.declared.cli.args.Args.{Args}
 
 -- a member of a workspace: its place in the metadata, its record, and whether it is private

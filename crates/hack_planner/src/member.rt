@@ -2,7 +2,7 @@
 
 ghost use Rattle.std.specs.Prelude.{◌≡◌, ◌↔◌, IsTrue, map};
 ghost use Rattle.hack_base.specs.Names.{names_of};
-ghost use Rattle.hack_metadata.specs.PackageSpecs.{Matches};
+ghost use Rattle.hack_pkgids.specs.PackageSpecs.{Matches};
 ghost use Rattle.hack_metadata.specs.SpecViews.{identity_of};
 ghost use Rattle.hack_planner.specs.Members.{IsMatched, MatchesSome, is_called};
 ghost use Rattle.hack_planner.specs.MembersView.{member_view};

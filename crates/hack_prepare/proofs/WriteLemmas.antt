@@ -8,8 +8,8 @@ use Rattle.hack_base.specs.Names.{Name}
 use Rattle.hack_files.specs.Files.{Change, Contents, Makes, MakesOrNot, Trace, puts}
 use Rattle.hack_files.specs.TraceLaws.{makes_more, makes_none}
 use Rattle.hack_edits.specs.DevDeps.{IsWithoutDev}
-use Rattle.hack_edits.specs.Members.{in_order}
-use Rattle.hack_edits.specs.PrivateCrates.{IsWithoutPrivate}
+use Rattle.hack_private_crates.specs.Members.{in_order}
+use Rattle.hack_private_crates.specs.PrivateCrates.{IsWithoutPrivate}
 use Rattle.hack_prepare.specs.Prepared.{IsRootEdit, MemberManifest, Wanted, drops_at_root, edits_root, gone_manifests, is_alone, is_root}
 use Rattle.hack_manifest.specs.LineRuns.{has_some}
 use Rattle.hack_prepare.specs.Internal.{KeepsApart, IsAtMostOne, MayWriteRoot}

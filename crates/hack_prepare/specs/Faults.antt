@@ -6,8 +6,8 @@ use Rattle.hack_files.specs.declared.fs.FsFault.{FsFault}
 use Rattle.hack_files.specs.declared.fs.FsFault.TheVariants as fs
 use Rattle.hack_files.specs.Files.{Contents}
 use Rattle.hack_edits.specs.DevDeps.{HasInlineTarget, IsMisread, IsWithoutDev}
-use Rattle.hack_edits.specs.Members.{in_order}
-use Rattle.hack_edits.specs.PrivateCrates.{HasBadForm, HasFitForm, HasWork, some_path_control}
+use Rattle.hack_private_crates.specs.Members.{in_order}
+use Rattle.hack_private_crates.specs.PrivateCrates.{HasBadForm, HasFitForm, HasWork, some_path_control}
 use Rattle.hack_prepare.specs.Paths.{IsEdited, IsLookedAt, IsReadRoot, IsTextless}
 use Rattle.hack_prepare.specs.Prepared.{HasPrivateRoot, MemberManifest, Wanted, drops_at_root, edits_root, gone_manifests, is_alone}
 use Rattle.hack_prepare.specs.EditSteps.{IsRootText}

@@ -6,8 +6,8 @@ use Rattle.hack_base.specs.Names.{Name}
 use Rattle.hack_files.specs.Files.{Contents}
 use Rattle.hack_edits.specs.DevDeps.{IsWithoutDev}
 use Rattle.hack_manifest.specs.LineRuns.{has_some}
-use Rattle.hack_edits.specs.Members.{in_order}
-use Rattle.hack_edits.specs.PrivateCrates.{IsWithoutPrivate}
+use Rattle.hack_private_crates.specs.Members.{in_order}
+use Rattle.hack_private_crates.specs.PrivateCrates.{IsWithoutPrivate}
 
 -- the edits that a call asks for in the manifests of a workspace
 pub record Wanted : Type 0 where

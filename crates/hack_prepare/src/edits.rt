@@ -3,12 +3,13 @@
 ghost use Rattle.std.specs.Prelude.{IfErr, IfOk, string_bytes};
 ghost use Rattle.hack_base.specs.Names.{names_behind};
 ghost use Rattle.hack_edits.specs.DevDeps.{IsWithoutDev};
-ghost use Rattle.hack_edits.specs.Members.{in_order};
-ghost use Rattle.hack_edits.specs.PrivateCrates.{IsWithoutPrivate};
+ghost use Rattle.hack_private_crates.specs.Members.{in_order};
+ghost use Rattle.hack_private_crates.specs.PrivateCrates.{IsWithoutPrivate};
 ghost use Rattle.hack_prepare.specs.Faults.{IsDevFault, IsPrivateFault};
 
 use crate::fault::{PrepareFault, of_edit};
-use hack_edits::manifest::{remove_dev_deps, remove_private_crates};
+use hack_edits::manifest::remove_dev_deps;
+use hack_private_crates::private_crates::remove_private_crates;
 use std::alloc::Global;
 
 /// Returns a text without its development dependencies.

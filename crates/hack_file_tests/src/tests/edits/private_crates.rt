@@ -2,8 +2,10 @@
 
 use crate::tests::edits::{given, on};
 use crate::tests::text::plain;
-use hack_edits::manifest::{EditFault, paths_in_order, remove_private_crates};
+use hack_edits::manifest::EditFault;
 use hack_holds::Wrong;
+use hack_private_crates::laws::paths_in_order;
+use hack_private_crates::private_crates::remove_private_crates;
 use std::alloc::{AllocError, Global};
 
 /// The text of a workspace without the crates at the paths.

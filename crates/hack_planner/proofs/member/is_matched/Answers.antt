@@ -1,5 +1,5 @@
 use Rattle.std.proofs.Common.{◌≡◌, ◌≤◌, ◌∙◌, true, false, refl, sym, subst, length, arith, Contains, string_bytes}
-use Rattle.hack_metadata.specs.PackageSpecs.{Matches}
+use Rattle.hack_pkgids.specs.PackageSpecs.{Matches}
 use Rattle.hack_metadata.specs.SpecViews.{identity_of}
 use Rattle.hack_planner.proofs.Growth.{none-more, here, seen-all}
 use Rattle.hack_planner.proofs.member.is_matched.Goals as goal

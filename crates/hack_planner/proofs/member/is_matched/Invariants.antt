@@ -1,6 +1,6 @@
 use Rattle.std.proofs.Common.{take, Contains}
 use Rattle.hack_base.specs.Names.{Name, names_of}
-use Rattle.hack_metadata.specs.PackageSpecs.{Matches}
+use Rattle.hack_pkgids.specs.PackageSpecs.{Matches}
 use Rattle.hack_metadata.specs.SpecViews.{identity_of}
 use Rattle.hack_planner.proofs.member.is_matched.Given as goal
 

@@ -1,5 +1,5 @@
 use Rattle.std.proofs.Common.{◌≡◌, ◌≤◌, ◌∙◌, true, false, refl, sym, subst, length, arith, Contains}
-use Rattle.hack_metadata.specs.PackageSpecs.{Matches}
+use Rattle.hack_pkgids.specs.PackageSpecs.{Matches}
 use Rattle.hack_planner.specs.Members.{Member, identity}
 use Rattle.hack_planner.specs.MembersView.{member_view}
 use Rattle.hack_planner.proofs.Growth.{none-more, here, seen-all}

@@ -1,5 +1,5 @@
 use Rattle.std.proofs.Common.{take, map, Contains}
-use Rattle.hack_metadata.specs.PackageSpecs.{Matches}
+use Rattle.hack_pkgids.specs.PackageSpecs.{Matches}
 use Rattle.hack_planner.specs.Members.{Member, identity}
 use Rattle.hack_planner.specs.MembersView.{member_view}
 use Rattle.hack_planner.proofs.member.matches_some.Given as goal

@@ -1,5 +1,0 @@
-use Rattle.std.proofs.Common.{◌≤◌}
-use Rattle.hack_edits.proofs.exclude.last_end.Given as goal
-
-abbrev pub invariant-loop : goal.invariant-loop
-invariant-loop l = l.from ≤ l.m

@@ -1,8 +1,0 @@
-use Rattle.hack_edits.proofs.OrderLemmas.{in_order-rises, in_order-has}
-use Rattle.hack_edits.proofs.laws.paths_in_order.Goals as goal
-
-pub returns-clause-rising : goal.returns-clause-rising
-returns-clause-rising c = in_order-rises
-
-pub returns-clause-given : goal.returns-clause-given
-returns-clause-given c = in_order-has

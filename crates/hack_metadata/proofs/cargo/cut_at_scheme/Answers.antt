@@ -1,5 +1,0 @@
-use Rattle.hack_metadata.proofs.TextLemmas.{scheme-from_split}
-use Rattle.hack_metadata.proofs.cargo.cut_at_scheme.Goals as goal
-
-pub returns : goal.returns
-returns c = scheme-from_split c.args.text.now c.split_once.result c.split_once.ensures.cases

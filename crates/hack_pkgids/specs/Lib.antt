@@ -1,0 +1,3 @@
+pub mod PackageSpecs
+pub mod InternalSpecAnswers
+pub mod Views

@@ -1,0 +1,4 @@
+//! Package ID specifications, and what they match.
+#![tactic(auto)]
+
+pub mod pkgids;

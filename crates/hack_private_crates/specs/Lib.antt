@@ -1,0 +1,4 @@
+pub mod Members
+pub mod Exclude
+pub mod WorkspaceTree
+pub mod PrivateCrates
