@@ -421,6 +421,26 @@ def closed(program):
             yield f"with closed streams the status is {ended.returncode}, and {len(world.notes())} notes were made"
 
 
+def unwritten(program):
+    """What runs wrote to standard output is not lost silently: where that is full the status is 1, and an error says so last. What
+    standard error doesn't take is let go."""
+    with tempfile.TemporaryDirectory(prefix="parallel-runs-") as folder, open("/dev/full", "wb") as full:
+        world = World(os.path.realpath(folder), {})
+        how = {"cwd": f"{world.folder}/w", "env": world.environment, "check": False, "timeout": 30}
+        words = [program, "hack", *f"check {SET} --parallel 3".split()]
+        world.forget()
+        ended = subprocess.run(words, stdout=full, stderr=subprocess.PIPE, **how)
+        last = ended.stderr.decode().splitlines()[-1:]
+        if ended.returncode != 1 or last != ["error: failed to write to standard output"]:
+            yield f"with a full standard output the status is {ended.returncode}, and the last line {last}"
+        if sum(it[0] == "ended" for it in world.notes()) < len(FEATURES):
+            yield "with a full standard output not all runs are made"
+        world.forget()
+        ended = subprocess.run(words, stdout=subprocess.PIPE, stderr=full, **how)
+        if ended.returncode != 0 or ended.stdout.count(b"output of") < len(FEATURES):
+            yield f"with a full standard error the status is {ended.returncode}, and {ended.stdout} is written"
+
+
 def main():
     if len(sys.argv) != 2:
         sys.exit(__doc__)
@@ -428,7 +448,7 @@ def main():
     program = os.path.realpath(sys.argv[1])
     checks = [(name, compared(program, name, *row)) for name, row in CALLS.items()]
     checks += [("gains", gains(program)), ("surroundings", surroundings(program)), ("interrupted", interrupted(program))]
-    checks += [("closed", closed(program)), ("in one stream", in_one_stream(program))]
+    checks += [("closed", closed(program)), ("in one stream", in_one_stream(program)), ("unwritten", unwritten(program))]
     failed = 0
     for _, faults in checks:
         found = list(faults)

@@ -24,7 +24,8 @@ fn main(rt: HostRuntime) -> ExitCode {
     ExitCode::from(call_here(&rt))
 }
 
-/// Performs the call of this process, and returns its exit status.
+/// Performs the call of this process, and returns its exit status. Where standard output didn't take
+/// what runs wrote side by side, that is an error too.
 fn call_here(rt: &HostRuntime) -> u8 {
     let mut term = Term::new(Coloring::Auto, false);
     let mut out = io::writer(rt);
@@ -50,6 +51,10 @@ fn call_here(rt: &HostRuntime) -> u8 {
         &mut keepers,
         &mut outside,
     );
+    if caller.is_output_cut() {
+        let _ = term.error("failed to write to standard output", &mut err);
+        return 1;
+    }
     status
 }
 

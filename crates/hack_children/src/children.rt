@@ -37,6 +37,8 @@ pub struct Children<R: Processes + Files<File = File> + Clock + Drop> {
     colors: bool,
     running: Vec<Running<R::Started>>,
     progress: Progress,
+    /// Standard output didn't take all that children wrote.
+    is_cut: bool,
 }
 
 impl<R: Processes + Files<File = File> + Clock + Drop> Children<R> {
@@ -57,6 +59,7 @@ impl<R: Processes + Files<File = File> + Clock + Drop> Children<R> {
         ensures files { (result.scratch ≡ scratch) × (result.process ≡ process) }
         ensures share { (result.processors ≡ Processors.Unshared) × (result.colors ≡ false) }
         ensures running { result.running.items ≡ [] }
+        ensures whole { result.is_cut ≡ false }
     {
         Children {
             rt,
@@ -68,6 +71,7 @@ impl<R: Processes + Files<File = File> + Clock + Drop> Children<R> {
             colors: false,
             running: Vec::new(alloc),
             progress: Progress::new(),
+            is_cut: false,
         }
     }
 
@@ -78,6 +82,13 @@ impl<R: Processes + Files<File = File> + Clock + Drop> Children<R> {
     {
         self.processors = processors;
         self.colors = colors;
+    }
+
+    /// Whether standard output didn't take all that children wrote which were started ahead.
+    pub fn is_output_cut(&self) -> bool
+        ensures { result ≡ self.now.is_cut }
+    {
+        self.is_cut
     }
 
     /// How many jobs each cargo has, of which so many run at once.
@@ -238,7 +249,8 @@ impl<R: Processes + Files<File = File> + Clock + Drop> Starts for Children<R> {
         };
         let end = running.wait();
         self.progress.erase(&mut self.err);
-        running.show(&mut self.out, &mut self.err);
+        let is_whole = running.show(&mut self.out, &mut self.err);
+        self.is_cut = self.is_cut || !is_whole;
         Ok(Called::silent(alloc, end))
     }
 

@@ -41,12 +41,14 @@ impl<P: OpenProcess> Running<P> {
         }
     }
 
-    /// Writes all that the child wrote. What can't be written is let go.
-    pub fn show<O: Write, E: Write>(&self, out: &mut O, err: &mut E) {
-        let _ = copy_whole(&self.output, out);
+    /// Writes all that the child wrote, and returns whether standard output took its part. What
+    /// standard error doesn't take is let go.
+    pub fn show<O: Write, E: Write>(&self, out: &mut O, err: &mut E) -> bool {
+        let shown = copy_whole(&self.output, out);
         if let Some(errors) = &self.errors {
             let _ = copy_whole(errors, err);
         }
+        shown.is_ok()
     }
 
     /// Ends the child with all that it started, unless it has ended, and waits for it. What a child
