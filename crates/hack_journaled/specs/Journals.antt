@@ -1,7 +1,8 @@
 -- What a call over files with a journal sees.
 use Rattle.std.specs.Prelude.{◌≡◌, ◌⊎◌, [], ◌∷◌, ◌+◌, ◌≤◌, ℕ, List, None, ◌-◌, ◌^◌, min}
 use Rattle.hack_base.specs.Counters.{GrowsBy}
-use Rattle.hack_files.specs.Files.{Contents, by_kind}
+use Rattle.hack_base.specs.Names.{Name}
+use Rattle.hack_files.specs.Files.{Contents, Makes, by_kind}
 use Rattle.hack_journal.specs.Journal.{Edit}
 use Rattle.hack_journal.specs.LockfilesApart.{apart, is_lockfile}
 use Rattle.hack_journal.specs.Recovery.{HasEntry}
@@ -9,7 +10,10 @@ use Rattle.hack_journal.specs.Rows.{AreEach, RemovesOwn, Spot, file_at}
 use Rattle.hack_journal.specs.SafeFiles.{trace_besides, without}
 use Rattle.hack_files.specs.View.{FilesView}
 use Rattle.hack_files.specs.declared.fs.Files.{Ghosts as Filing}
+use Rattle.hack_run.specs.Shown.{Looks, SaysCall}
 use Rattle.hack_run.specs.Worlds.{HostView, World}
+use Rattle.hack_session.specs.StepEffects.{Scene}
+use Rattle.hack_words.specs.declared.cli.env.Env.{Env}
 
 -- what the paths hold: lockfiles what `lockfiles` holds, all others what `files` holds, and those
 -- that are set aside for the journal nothing
@@ -27,6 +31,17 @@ files_seen journal files lockfiles failed = record {
 -- the same with a host
 abbrev pub world_seen : List ℕ → FilesView → FilesView → ℕ → HostView → World
 world_seen journal files lockfiles failed host = record { files = files_seen journal files lockfiles failed; host = host }
+
+-- What `run` says of a call was said, over files that were so before it and are so at its end: they hold the same, and
+-- where they show their changes, just those that were made in the call.
+pub record SaysCallOver {F : Type 0} (f : Filing F) (first last : FilesView) (tells : Type 0) (words : List Name) (env : Env) (looks now : Looks) (old new : Scene) : Type 0 where
+  pub before : F
+  pub after : F
+  pub held : f.bytes_at before ≡ first.held
+  pub shown : f.trace before ≡ first.trace
+  pub left : f.tells → f.bytes_at after ≡ last.held
+  pub unchanged : f.whole → Makes [] (f.trace after) last.trace (f.bytes_at after) last.held
+  pub said : SaysCall f before after tells words env looks now old new
 
 -- a number of failures is no greater than by how much three counts grew together, and no less than what those of the
 -- lockfiles and of what couldn't be kept grew by

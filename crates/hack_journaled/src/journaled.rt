@@ -14,14 +14,15 @@ ghost use Rattle.hack_journal.specs.Refusing.{NotesRefusals};
 ghost use Rattle.hack_journal.specs.Rows.{KeepsBeside, RemovesOwn, spot_of};
 ghost use Rattle.hack_journal.specs.SafeFiles.{AreBack, Stays, StaysSafe, without};
 ghost use Rattle.hack_journaled.specs.Journals.{BetweenBoth, IsAccounted, files_seen, world_seen};
-ghost use Rattle.hack_journaled.specs.Journals.{IsWhyItStays, OnlyEndFailed, contents_seen};
+ghost use Rattle.hack_journaled.specs.Journals.{IsWhyItStays, OnlyEndFailed, SaysCallOver};
+ghost use Rattle.hack_journaled.specs.Journals.{contents_seen};
 ghost use Rattle.hack_run.specs.CallChanges.{IsChangeTrace};
 ghost use Rattle.hack_run.specs.CallTrace.{IsCallTrace};
 ghost use Rattle.hack_run.specs.Lanes.{IsLaneCall};
 ghost use Rattle.hack_run.specs.Readings.{IsEarlyReadingOrRefusal};
 ghost use Rattle.hack_run.specs.TemporaryEdits.{BringsBack, RestoresEdits};
 ghost use Rattle.hack_run.specs.Refusals.{AreRefused, ReportsRefusal};
-ghost use Rattle.hack_run.specs.Shown.{SaysCallOver, looks_of, scene_on};
+ghost use Rattle.hack_run.specs.Shown.{looks_of, scene_on};
 ghost use Rattle.hack_run.specs.Standing.{EditsStand};
 ghost use Rattle.hack_run.specs.Worlds.{IsSameHost, IsStatus, host_view};
 
@@ -161,10 +162,13 @@ pub fn run_journaled<F: JournalFiles, L: Files, U: Unkept, C: Starts, O: Sink, E
         (without (string_bytes place.journal) (F.bytes_at files))
         (without (string_bytes place.journal) (F.bytes_at result.1)) }
 
-    // And just what `run` says is said.
+    // And just what `run` says is said, over files that show just the changes of these, also where an
+    // error was reported.
     ensures shown { C.tells → SaysCallOver ⟦<Apart<Journaled<F, U>, L> as Files>⟧
-        (contents_seen (string_bytes place.journal) (F.bytes_at files) (L.bytes_at lockfiles))
-        (contents_seen (string_bytes place.journal) (F.bytes_at result.1) (L.bytes_at result.2))
+        (files_seen (string_bytes place.journal) (files_view F.Files files)
+        (files_view L.Files lockfiles) 0)
+        (files_seen (string_bytes place.journal) (files_view F.Files result.1)
+        (files_view L.Files result.2) result.3)
         C.tells (names_of words.now) host.old.env.now
         (looks_of host.old.term.now) (looks_of host.new.term.now)
         (scene_on C.Caller O.Sink E.Sink host.old) (scene_on C.Caller O.Sink E.Sink host.new) }

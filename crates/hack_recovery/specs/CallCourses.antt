@@ -9,14 +9,14 @@ use Rattle.hack_journal.specs.Refusing.{AreJust, HoldsByKind, IsRefused, IsRefus
 use Rattle.hack_journal.specs.Rows.{Spot}
 use Rattle.hack_journal.specs.SafeFiles.{StaysSafe, without}
 use Rattle.hack_journal.specs.declared.unkept.Unkept.{Ghosts as Noting}
-use Rattle.hack_journaled.specs.Journals.{BetweenBoth, IsAccounted, IsWhyItStays, OnlyEndFailed, contents_seen, files_seen, world_seen}
+use Rattle.hack_journaled.specs.Journals.{BetweenBoth, IsAccounted, IsWhyItStays, OnlyEndFailed, SaysCallOver, contents_seen, files_seen, world_seen}
 use Rattle.hack_run.specs.CallChanges.{IsChangeTrace}
 use Rattle.hack_run.specs.CallTrace.{IsCallTrace}
 use Rattle.hack_run.specs.LastingEdits.{LeavesAtMostEdits}
 use Rattle.hack_run.specs.Standing.{Between, EditsStand}
 use Rattle.hack_run.specs.TemporaryEdits.{BringsBack, IsClean, RestoresEdits}
 use Rattle.hack_run.specs.Refusals.{AreRefused, ReportsRefusal}
-use Rattle.hack_run.specs.Shown.{SaysCall, SaysCallOver, looks_of}
+use Rattle.hack_run.specs.Shown.{SaysCall, looks_of}
 use Rattle.hack_files.specs.View.{FilesView, files_view}
 use Rattle.hack_files.specs.declared.fs.Files.{Ghosts as Filing}
 use Rattle.hack_run.specs.Worlds.{IsStatus}
@@ -161,7 +161,7 @@ pub record Journals {F L U J : Type 0} (f : Filing F) (l : Filing L) (u : Noting
       (world_seen spot.journal old.files old.lockfiles 0 old.host) (world_seen spot.journal new.files new.lockfiles failed new.host)
   pub made : talks → IsCallTrace false (f.tells × l.tells) words env
       (world_seen spot.journal old.files old.lockfiles 0 old.host) (world_seen spot.journal new.files new.lockfiles failed new.host)
-  pub said : talks → SaysCallOver j (contents_seen spot.journal old.files.held old.lockfiles.held) (contents_seen spot.journal new.files.held new.lockfiles.held)
+  pub said : talks → SaysCallOver j (files_seen spot.journal old.files old.lockfiles 0) (files_seen spot.journal new.files new.lockfiles failed)
       talks words env (looks_of old.host.term) (looks_of new.host.term) (said_in old) (said_in new)
   pub clean : new.host.term.error ≡ false → RestoresEdits env words → f.tells → l.tells
       → KeepsAll (contents_seen spot.journal old.files.held old.lockfiles.held) (contents_seen spot.journal new.files.held new.lockfiles.held)

@@ -379,11 +379,3 @@ pub record SaysCall {F : Type 0} (f : Filing F) (before after : F) (tells : Type
   pub said : ((after ≡ before) × SaysUnread came words env looks at old (scene_with new.calls mid new)) ⊎ SaysRead f before after came tells words env looks at old (scene_with new.calls mid new)
   pub end : SaysEnd came env at.coloring mid new.streams.err
   pub ends : now ≡ reported_on (is_err came || at.reported) at
-
--- the same, over files that held this before the call and after it
-pub record SaysCallOver {F : Type 0} (f : Filing F) (held left : Contents) (tells : Type 0) (words : List Name) (env : Env) (looks now : Looks) (old new : Scene) : Type 0 where
-  pub before : F
-  pub after : F
-  pub first : f.bytes_at before ≡ held
-  pub last : f.tells → f.bytes_at after ≡ left
-  pub said : SaysCall f before after tells words env looks now old new

@@ -216,13 +216,17 @@ returns-clause-shown g c = λ t.
     let named : c.new.result.notes.journal ≡ string_bytes c.args.place.journal = ap (λ (s : Spot). s.journal) c.new.ensures.place in
     let mid = c.run-status.new.files in
     let bytes = g.F.Files.bytes_at in
+    let trace = g.F.Files.trace in
     let ran = rw c.new-files.ensures.files at c.run-status.ensures.stays in
     let same : string_bytes c.args.place.journal ≡ mid.files.notes.journal = sym named ∙ ap (λ (s : Spot). s.journal) ran.0.0 in
     record {
       before = c.new-files.result;
       after = mid;
-      first = rw (c.new-files.ensures.files, c.new-files.ensures.lockfiles, named, c.new.ensures.files) refl;
-      last = λ tells. seen_same (string_bytes c.args.place.journal) mid.files.notes.journal (length mid.files.notes.entries + 1) (bytes mid.files.files) (bytes c.end_journal-failed.new.files.files) (bytes c.into_inner-below.result.0) (g.L.Files.bytes_at mid.lockfiles) same (c.end_journal-failed.ensures.others tells.0) (rw c.into_inner-below.ensures.files refl);
+      held = rw (c.new-files.ensures.files, c.new-files.ensures.lockfiles, named, c.new.ensures.files) refl;
+      shown = rw (c.new-files.ensures.files, c.new-files.ensures.lockfiles, named, c.new.ensures.files) refl;
+      unchanged = λ whole. traced_same (string_bytes c.args.place.journal) mid.files.notes.journal (trace mid.files.files) (trace c.end_journal-failed.new.files.files) (g.L.Files.trace mid.lockfiles) (trace c.into_inner-below.result.0) (bytes mid.files.files) (bytes c.end_journal-failed.new.files.files) (bytes c.into_inner-below.result.0) (g.L.Files.bytes_at mid.lockfiles) same
+          (c.end_journal-failed.ensures.only whole.0.1) (rw c.into_inner-below.ensures.files refl) (rw c.into_inner-below.ensures.files refl);
+      left = λ tells. seen_same (string_bytes c.args.place.journal) mid.files.notes.journal (length mid.files.notes.entries + 1) (bytes mid.files.files) (bytes c.end_journal-failed.new.files.files) (bytes c.into_inner-below.result.0) (g.L.Files.bytes_at mid.lockfiles) same (c.end_journal-failed.ensures.others tells.0) (rw c.into_inner-below.ensures.files refl);
       said = c.run-status.ensures.shown t;
     }
 
