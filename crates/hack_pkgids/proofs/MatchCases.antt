@@ -171,25 +171,21 @@ pub record Settles (p : Identity) (spec : Name) (answer : MatchAnswer) : Type 0 
   pub bad_id : (answer ≡ Err BadId) ↔ HasBadId p spec
   pub bad_version : (answer ≡ Err BadVersion) ↔ HasBadVersion p spec
 
-pub name-settles : (p : Identity) (spec name version rest : Name) (answer : MatchAnswer) → name ≡ p.name → version ≡ p.version → IsBehind name spec (Some rest) → answer ≡ behind_name version rest → Settles p spec answer
-name-settles p spec name version rest answer ns vs begins is =
-    let e : spec ≡ p.name ++ rest = begins ∙ ap (λ n. n ++ rest) ns in
-    let same : answer ≡ behind_name p.version rest = is ∙ ap (λ v. behind_name v rest) vs in
-    let comes : Comes p spec answer = subst (λ a. Comes p spec a) (sym same) (name-comes p spec rest e) in
+pub name-settles : (p : Identity) (spec rest : Name) (answer : MatchAnswer) → IsBehind p.name spec (Some rest) → answer ≡ behind_name p.version rest → Settles p spec answer
+name-settles p spec rest answer begins is =
+    let comes : Comes p spec answer = subst (λ a. Comes p spec a) (sym is) (name-comes p spec rest begins) in
     record {
-      matches = (comes-true p spec answer comes, λ m. same ∙ name-matches p spec rest e m);
-      bad_id = (comes-bad_id p spec answer comes, λ h. absurd (h.unnamed rest e));
-      bad_version = (comes-bad_version p spec answer comes, λ h. same ∙ name-asks p spec rest h.given h.full e h.asks ∙ short-tested h.given h.full h.short);
+      matches = (comes-true p spec answer comes, λ m. is ∙ name-matches p spec rest begins m);
+      bad_id = (comes-bad_id p spec answer comes, λ h. absurd (h.unnamed rest begins));
+      bad_version = (comes-bad_version p spec answer comes, λ h. is ∙ name-asks p spec rest h.given h.full begins h.asks ∙ short-tested h.given h.full h.short);
     }
 
-pub url-settles : (p : Identity) (spec name text id : Name) (g o : Option Url) (answer : MatchAnswer) → name ≡ p.name → IsBehind name spec None → text ≡ trimmed_end spec → id ≡ p.id → IsUrlOrNone text g → IsUrlOrNone id o → answer ≡ of_urls p g o → Settles p spec answer
-url-settles p spec name text id g o answer ns begins ts ids hg ho is =
-    let unnamed : (rest : Name) → spec ≢ p.name ++ rest = subst (λ n. (rest : Name) → spec ≢ n ++ rest) ns begins in
-    let hg' : IsUrlOrNone (trimmed_end spec) g = subst (λ t. IsUrlOrNone t g) ts hg in
-    let ho' : IsUrlOrNone p.id o = subst (λ t. IsUrlOrNone t o) ids ho in
-    let comes : Comes p spec answer = subst (λ a. Comes p spec a) (sym is) (url-comes p spec unnamed g o hg' ho') in
+pub url-settles : (p : Identity) (spec text : Name) (g o : Option Url) (answer : MatchAnswer) → IsBehind p.name spec None → text ≡ trimmed_end spec → IsUrlOrNone text g → IsUrlOrNone p.id o → answer ≡ of_urls p g o → Settles p spec answer
+url-settles p spec text g o answer unnamed ts given ho is =
+    let hg : IsUrlOrNone (trimmed_end spec) g = subst (λ t. IsUrlOrNone t g) ts given in
+    let comes : Comes p spec answer = subst (λ a. Comes p spec a) (sym is) (url-comes p spec unnamed g o hg ho) in
     record {
-      matches = (comes-true p spec answer comes, λ m. is ∙ url-matches p spec unnamed g o hg' ho' m);
-      bad_id = (comes-bad_id p spec answer comes, λ h. is ∙ url-bad_id p spec unnamed g o hg' ho' h);
-      bad_version = (comes-bad_version p spec answer comes, λ h. is ∙ url-asks p spec unnamed g o hg' ho' h.given h.full h.asks ∙ short-tested h.given h.full h.short);
+      matches = (comes-true p spec answer comes, λ m. is ∙ url-matches p spec unnamed g o hg ho m);
+      bad_id = (comes-bad_id p spec answer comes, λ h. is ∙ url-bad_id p spec unnamed g o hg ho h);
+      bad_version = (comes-bad_version p spec answer comes, λ h. is ∙ url-asks p spec unnamed g o hg ho h.given h.full h.asks ∙ short-tested h.given h.full h.short);
     }
