@@ -5,7 +5,7 @@
 pub mod arrays;
 mod dev_deps;
 mod dev_tree;
-pub mod fault;
+mod fault;
 pub mod key_paths;
 mod laws;
 mod lookup;
